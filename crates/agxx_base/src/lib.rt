@@ -1,0 +1,24 @@
+//! The base layer: places, rules and refusals, statuses, numbers for names and nodes, texts and lists, the traits of
+//! the outside (`Files` and `Sink`) with their implementations in memory and over the system, and reading and writing
+//! whole files. The layers above may use all that is public here.
+#![tactic(auto)]
+
+mod fault;
+mod ids;
+mod kind;
+mod list;
+mod place;
+mod rule;
+mod status;
+mod text;
+mod vocabulary;
+
+pub use fault::{Failed, Fault, Memory, Refusal};
+pub use ids::{ClassId, FnId, NameId, NodeId, ObjectId};
+pub use kind::{Mode, NumKind};
+pub use list::{ListOf, Words};
+pub use place::Place;
+pub use rule::Rule;
+pub use status::Status;
+pub use text::Text;
+pub use vocabulary::{Header, Keyword, Sign, SpecialName};
