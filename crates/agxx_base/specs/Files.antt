@@ -1,5 +1,5 @@
 -- Files by name, what starting and reading them answers, and what reading one whole answers.
-use Rattle.std.specs.Prelude.{ℕ, ◌≡◌, ◌≤◌, ◌<◌, ◌⊎◌, ◌↔◌, Bool, true, false, List, [], ◌++◌, length, find, Option, None, Some, option_map, Result, IfOk, OnErr, IfSome, IsSomeAnd, IsErrOf}
+use Rattle.std.specs.Prelude.{ℕ, ◌≡◌, ◌≤◌, ◌<◌, ◌⊎◌, ◌↔◌, Bool, true, false, List, [], ◌++◌, length, find, Option, None, Some, Ok, option_map, Result, IfOk, OnErr, IfSome, IsSomeAnd, IsErrOf}
 use Rattle.std.specs.Str.{bytes_eq}
 use Rattle.agxx_base.specs.Causes.{Rose}
 use Rattle.agxx_base.specs.Pieces.{bytes_of}
@@ -25,7 +25,7 @@ pub record Starts (listed : Option Listing) (name : List ℕ) (before now : ℕ)
 
 -- What reading on answers: the next bytes are in the piece, and no bytes only at the end. A failed read leaves what is left.
 pub record Reads (listed : Option Listing) (before after : List ℕ) (piece : Piece) (result : Result ℕ Failed) : Type 0 where
-  pub count : IfOk result (λ n. (n ≤ 4096) × (piece.len ≡ n))
+  pub count : IfOk result (λ n. (n ≤ 4096) × (piece.len ≡ n) × (length (bytes_of piece) ≡ n))
   pub next : IfOk result (λ n. IfSome listed (λ _. (before ≡ bytes_of piece ++ after) × ((n ≡ 0) ↔ (before ≡ []))))
   pub failed : OnErr result (IfSome listed (λ _. after ≡ before))
 

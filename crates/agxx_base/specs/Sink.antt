@@ -1,6 +1,7 @@
 -- What writing to a sink answers, piece by piece and whole.
 use Rattle.std.specs.Prelude.{ℕ, ◌≡◌, ◌≤◌, ◌<◌, List, ◌++◌, length, take, Option, option_map, Result, IfOk, OnOk, OnErr}
 use Rattle.agxx_base.specs.Causes.{Rose}
+use Rattle.agxx_base.specs.Pieces.{bytes_of}
 use Rattle.agxx_base.specs.declared.piece.Piece.{Piece}
 use Rattle.agxx_base.specs.declared.fault.Failed.{Failed}
 
@@ -12,7 +13,7 @@ appended taken bytes = option_map (λ had. had ++ bytes) taken
 -- appends nothing.
 pub record Takes (before after : Option (List ℕ)) (piece : Piece) (result : Result ℕ Failed) : Type 0 where
   pub count : IfOk result (λ n. (n ≤ piece.len) × (0 < piece.len → 0 < n))
-  pub appends : IfOk result (λ n. after ≡ appended before (take n piece.bytes))
+  pub appends : IfOk result (λ n. after ≡ appended before (take n (bytes_of piece)))
   pub failed : OnErr result (after ≡ before)
 
 -- What writing a list of bytes answers, whatever calls it takes: at Ok all of them were appended. After an error a prefix
