@@ -1,5 +1,9 @@
+pub mod Calls
 pub mod Causes
+pub mod Cursor
 pub mod Files
+pub mod MemFiles
+pub mod MemSink
 pub mod Pieces
 pub mod Rules
 pub mod Sink

@@ -3,10 +3,13 @@
 //! whole files. The layers above may use all that is public here.
 #![tactic(auto)]
 
+mod calls;
 mod fault;
 mod ids;
 mod kind;
 mod list;
+mod memory_files;
+mod memory_sink;
 mod piece;
 mod place;
 mod rule;
@@ -21,6 +24,8 @@ pub use fault::{Failed, Fault, Memory, Refusal};
 pub use ids::{ClassId, FnId, NameId, NodeId, ObjectId};
 pub use kind::{Mode, NumKind};
 pub use list::{ListOf, Words};
+pub use memory_files::MemFiles;
+pub use memory_sink::MemSink;
 pub use piece::Piece;
 pub use place::Place;
 pub use rule::Rule;
