@@ -4,6 +4,7 @@ pub mod Cursor
 pub mod Files
 pub mod MemFiles
 pub mod MemSink
+pub mod Names
 pub mod Pieces
 pub mod Rules
 pub mod Sink
