@@ -1,6 +1,6 @@
 //! Calls that are counted, some of which are to fail.
 
-ghost use Rattle.std.specs.Prelude.{◌≡◌, OnOk, OnErr};
+ghost use Rattle.std.specs.Prelude.{◌≡◌, ◌≤◌, OnOk, OnErr};
 ghost use Rattle.agxx_base.specs.Calls.{no_calls, failing_at, fails, after_call, counted};
 
 use crate::Memory;
@@ -54,7 +54,8 @@ impl Calls {
 
 /// Counts a fault, up to the counter's last value.
 pub fn count_fault(faults: &mut u64)
-    ensures { faults.new ≡ counted faults.old }
+    ensures counted { faults.new ≡ counted faults.old }
+    ensures later { faults.old ≤ faults.new }
 {
     *faults = faults.saturating_add(1);
 }

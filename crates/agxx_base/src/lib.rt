@@ -4,6 +4,7 @@
 #![tactic(auto)]
 
 mod calls;
+mod disk;
 mod fault;
 mod ids;
 mod kind;
@@ -21,6 +22,7 @@ mod text;
 mod vocabulary;
 mod whole;
 
+pub use disk::{DiskFiles, StdSink};
 pub use fault::{Failed, Fault, Memory, Refusal};
 pub use ids::{ClassId, FnId, NameId, NodeId, ObjectId};
 pub use kind::{Mode, NumKind};
