@@ -1,6 +1,6 @@
 -- Texts and their numbers.
-use Rattle.std.proofs.Common.{◌≡◌, ℕ, zero, suc, ◌+◌, ◌<◌, ◌≤◌, Bool, true, false, not, cond, ◌||◌, List, [], ◌∷◌, ◌++◌, map, length, slice_get, Option, Some, None, position, nat_lt, if◌then◌else◌, refl, sym, ap, subst, ◌∙◌, length-append, arith, true≢false}
-use Rattle.std.specs.List.{list_any, position_or_len, prefix_len, AllByRecursion, IsDistinct as KeysDiffer}
+use Rattle.std.proofs.Common.{◌≡◌, ℕ, zero, suc, ◌+◌, Bool, true, false, not, cond, ◌||◌, List, [], ◌∷◌, ◌++◌, map, length, slice_get, Some, None, position, nat_lt, if◌then◌else◌, refl, sym, ap, ◌∙◌, arith, true≢false}
+use Rattle.std.specs.List.{list_any, position_or_len, AllByRecursion, IsDistinct as KeysDiffer}
 use Rattle.std.specs.Str.{bytes_eq}
 use Rattle.std.proofs.lemmas.List.{map-append}
 use Rattle.std.proofs.lemmas.Slice.Eq.{bytes_eq-Decides}

@@ -1,17 +1,16 @@
 -- What was read of a file, as far as it is told, and where files stand in a list.
-use Rattle.std.proofs.Common.{◌≡◌, ℕ, ◌+◌, ◌-◌, ◌<◌, ◌≤◌, min, Bool, true, false, List, [], ◌∷◌, ◌++◌, length, take, drop, get_or, Option, None, Some, Result, Ok, Err, option_map, slice_get, position, find, nat_lt, cond, IfSome, MatchOption, length-append, refl, sym, ap, subst, ◌∙◌, inl, inr, is_some, unwrap_or, arith}
+use Rattle.std.proofs.Common.{◌≡◌, ℕ, ◌+◌, ◌-◌, ◌<◌, min, Bool, List, [], ◌++◌, length, take, drop, get_or, Option, None, Some, Ok, option_map, slice_get, position, find, nat_lt, cond, IfSome, MatchOption, length-append, refl, sym, ap, subst, ◌∙◌, inl, inr, arith}
 use Rattle.std.specs.List.{position_or_len}
-use Rattle.std.proofs.lemmas.List.{drop-drop, drop_min, take_min, take-append-drop, nil_from_length, length-take}
+use Rattle.std.proofs.lemmas.List.{drop-drop, drop_min, take-append-drop, nil_from_length, length-take}
 use Rattle.std.proofs.lemmas.List.Folds.{find_at}
 use Rattle.std.proofs.lemmas.Bool.{lt-ltb, le-ltb}
 use Rattle.std.proofs.lemmas.Option.{slice_get_cases, slice_get_read, get_or_from_slice_get}
 use Rattle.std.specs.Str.{bytes_eq}
 use Rattle.agxx_base.proofs.Pieces.{behind}
-use Rattle.agxx_base.specs.Cursor.{bytes_at, left_at, IsInside}
+use Rattle.agxx_base.specs.Cursor.{bytes_at}
 use Rattle.agxx_base.specs.Files.{Listing, Reads, file_named}
 use Rattle.agxx_base.specs.Pieces.{bytes_of}
 use Rattle.agxx_base.specs.declared.piece.Piece.{Piece}
-use Rattle.agxx_base.specs.declared.fault.Failed.{Failed}
 
 -- bytes, a piece and a rest are more than a limit where the bytes and the piece are
 pub larger : {L : Type 0} (P : L → Type 0) (listed : Option L) (whole had left rest piece : List ℕ) (limit : ℕ) → IfSome listed (λ _. whole ≡ had ++ left) → IfSome listed (λ files. (left ≡ piece ++ rest) × P files) → limit < length had + length piece → IfSome listed (λ _. limit < length whole)

@@ -8,13 +8,13 @@ use crate::{Failed, Piece};
 
 /// A place that takes bytes in order.
 pub trait Sink {
-    /// How often the sink has failed. A number that stands at 2^64 - 1 may stay there.
+    /// How often the sink has failed. It never falls, and a number that stands at 2^64 - 1 may stay there.
     ghost faults: { Self → ℕ };
 
     /// The bytes taken so far, where they are told.
     ghost taken: { Self → Option (List ℕ) };
 
-    /// How many writes there were, or fewer.
+    /// A count of calls of `write`, which rises by at most one in each.
     ghost writes: { Self → ℕ };
 
     /// Appends the piece's bytes, or the first of them, and tells how many it took.

@@ -8,7 +8,7 @@ use crate::{Failed, Piece, Text};
 
 /// A source of files. One file at a time is started and read on to its end.
 pub trait Files {
-    /// How often a file has failed. A number that stands at 2^64 - 1 may stay there.
+    /// How often a file has failed. It never falls, and a number that stands at 2^64 - 1 may stay there.
     ghost faults: { Self → ℕ };
 
     /// The names and bytes of all files, where they are told.
@@ -17,7 +17,7 @@ pub trait Files {
     /// What is left of the started file, where the list is told.
     ghost left: { Self → List ℕ };
 
-    /// How many reads there were, or fewer.
+    /// A count of calls of `read`, which rises by at most one in each.
     ghost reads: { Self → ℕ };
 
     /// Starts the file of this name. `Ok(false)` says that there is none; after it, and after `Failed`, nothing is left.

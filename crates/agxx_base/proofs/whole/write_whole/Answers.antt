@@ -1,4 +1,4 @@
-use Rattle.std.proofs.Common.{arith, ◌≤◌, ◌<◌, ◌-◌, ◌+◌, ◌≡◌, length, take, drop, ap, ◌∙◌}
+use Rattle.std.proofs.Common.{arith, ◌≤◌, ◌<◌, length, ap, ◌∙◌}
 use Rattle.std.proofs.lemmas.List.{length-drop}
 use Rattle.agxx_base.proofs.Pieces.{behind}
 use Rattle.agxx_base.proofs.Sinks.{appended-more}
