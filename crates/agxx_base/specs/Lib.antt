@@ -1,3 +1,12 @@
+pub mod Calls
+pub mod Causes
+pub mod Cursor
+pub mod Files
+pub mod MemFiles
+pub mod MemSink
+pub mod Names
+pub mod Pieces
 pub mod Rules
+pub mod Sink
 pub mod Status
 pub mod Vocabulary

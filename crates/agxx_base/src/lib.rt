@@ -3,22 +3,42 @@
 //! whole files. The layers above may use all that is public here.
 #![tactic(auto)]
 
+mod calls;
+mod disk;
 mod fault;
 mod ids;
 mod kind;
 mod list;
+mod memory_files;
+mod memory_sink;
+mod names;
+mod piece;
 mod place;
 mod rule;
+mod sink;
+mod source;
 mod status;
 mod text;
 mod vocabulary;
+mod whole;
 
+pub use disk::{DiskFiles, StdSink};
 pub use fault::{Failed, Fault, Memory, Refusal};
 pub use ids::{ClassId, FnId, NameId, NodeId, ObjectId};
 pub use kind::{Mode, NumKind};
 pub use list::{ListOf, Words};
+pub use memory_files::MemFiles;
+pub use memory_sink::MemSink;
+pub use names::Names;
+pub use piece::Piece;
 pub use place::Place;
 pub use rule::Rule;
+pub use sink::Sink;
+pub use source::Files;
 pub use status::Status;
 pub use text::Text;
 pub use vocabulary::{Header, Keyword, Sign, SpecialName};
+pub use whole::{ReadError, read_whole, write_whole};
+
+#[cfg(test)]
+mod tests;

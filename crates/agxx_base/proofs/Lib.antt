@@ -1,0 +1,4 @@
+pub mod Interning
+pub mod Pieces
+pub mod Readings
+pub mod Sinks

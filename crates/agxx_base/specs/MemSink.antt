@@ -1,0 +1,24 @@
+-- A sink in memory, and exactly what writing to it does.
+use Rattle.std.specs.Prelude.{ℕ, ◌≡◌, ◌-◌, min, ◌||◌, ◌&&◌, List, ◌++◌, take, Option, is_err, unwrap_or, nat_lt, ◌==◌, Result, IfOk, OnErr}
+use Rattle.agxx_base.specs.Calls.{CallsState, counted, fails, after_call}
+use Rattle.agxx_base.specs.Pieces.{bytes_of}
+use Rattle.agxx_base.specs.declared.piece.Piece.{Piece}
+use Rattle.agxx_base.specs.declared.fault.Failed.{Failed}
+
+-- all that calls depend on: the bytes taken, how many more fit, the limit of one call, the calls, and the faults so far
+pub record SinkState : Type 0 where
+  pub taken : List ℕ
+  pub room : ℕ
+  pub limit : Option ℕ
+  pub writes : CallsState
+  pub faults : ℕ
+
+-- how many of n bytes a write takes: what there are, up to the limit and the room
+abbrev pub accepted : SinkState → ℕ → ℕ
+accepted sink n = min (min n sink.room) (unwrap_or sink.limit n)
+
+-- A write fails exactly at a listed call, or where it could take none of some bytes. Else it takes what it can.
+pub record WritesInMemory (before after : SinkState) (piece : Piece) (result : Result ℕ Failed) : Type 0 where
+  pub fails : is_err result ≡ (fails before.writes || (nat_lt 0 piece.len && (accepted before piece.len == 0)))
+  pub at_ok : IfOk result (λ n. (n ≡ accepted before piece.len) × (after ≡ record before { taken = before.taken ++ take n (bytes_of piece); room = before.room - n; writes = after_call before.writes }))
+  pub at_err : OnErr result (after ≡ record before { writes = after_call before.writes; faults = counted before.faults })
