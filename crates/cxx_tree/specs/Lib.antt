@@ -9,3 +9,5 @@ pub mod AspectSpelling
 pub mod Limits
 pub mod Fits
 pub mod AspectFits
+pub mod Blank
+pub mod Same
