@@ -86,18 +86,5 @@ pub(super) fn same_call(a: &Call, b: &Call) -> bool
 pub(super) fn same_exprs(a: &[Expr], b: &[Expr]) -> bool
     ensures { IsTrue result ↔ (blank_exprs (exprs_tree a.now) ≡ blank_exprs (exprs_tree b.now)) }
 {
-    let mut rest = b;
-    for first in a {
-        let [other, others @ ..] = rest else {
-            return false;
-        };
-        if !same_expr(first, other) {
-            return false;
-        }
-        rest = others;
-    }
-    match rest {
-        [] => true,
-        [_surplus, ..] => false,
-    }
+    all_same!(a, b, same_expr)
 }

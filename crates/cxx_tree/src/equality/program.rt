@@ -9,7 +9,7 @@ use super::expr::same_exprs;
 use super::stmt::same_block;
 use crate::node::{Name, Placed};
 use crate::program::{
-    Class, ClassName, Const, Ctor, Decl, Dtor, Function, Global, Init, Item, Member, Object, Param, Program, Proto, Variable,
+    Class, ClassName, Const, Ctor, Decl, Directive, Dtor, Function, Global, Init, Item, Member, Object, Param, Program, Proto, Variable,
 };
 
 fn same_param(a: &Param, b: &Param) -> bool
@@ -21,20 +21,7 @@ fn same_param(a: &Param, b: &Param) -> bool
 fn same_params(a: &[Param], b: &[Param]) -> bool
     ensures { IsTrue result ↔ (map blank_param a.now ≡ map blank_param b.now) }
 {
-    let mut rest = b;
-    for first in a {
-        let [other, others @ ..] = rest else {
-            return false;
-        };
-        if !same_param(first, other) {
-            return false;
-        }
-        rest = others;
-    }
-    match rest {
-        [] => true,
-        [_surplus, ..] => false,
-    }
+    all_same!(a, b, same_param)
 }
 
 fn same_member(a: &Member, b: &Member) -> bool
@@ -67,20 +54,7 @@ fn same_init(a: &Init, b: &Init) -> bool
 fn same_inits(a: &[Init], b: &[Init]) -> bool
     ensures { IsTrue result ↔ (map blank_init (map init_tree a.now) ≡ map blank_init (map init_tree b.now)) }
 {
-    let mut rest = b;
-    for first in a {
-        let [other, others @ ..] = rest else {
-            return false;
-        };
-        if !same_init(first, other) {
-            return false;
-        }
-        rest = others;
-    }
-    match rest {
-        [] => true,
-        [_surplus, ..] => false,
-    }
+    all_same!(a, b, same_init)
 }
 
 fn same_ctor(a: &Ctor, b: &Ctor) -> bool
@@ -114,20 +88,7 @@ fn same_item(a: &Item, b: &Item) -> bool
 fn same_items(a: &[Item], b: &[Item]) -> bool
     ensures { IsTrue result ↔ (map blank_item (map item_tree a.now) ≡ map blank_item (map item_tree b.now)) }
 {
-    let mut rest = b;
-    for first in a {
-        let [other, others @ ..] = rest else {
-            return false;
-        };
-        if !same_item(first, other) {
-            return false;
-        }
-        rest = others;
-    }
-    match rest {
-        [] => true,
-        [_surplus, ..] => false,
-    }
+    all_same!(a, b, same_item)
 }
 
 fn same_base_class(a: &Option<Name>, b: &Option<Name>) -> bool
@@ -201,28 +162,27 @@ fn same_decl(a: &Decl, b: &Decl) -> bool
     }
 }
 
+fn same_directive(a: &Directive, b: &Directive) -> bool
+    ensures { IsTrue result ↔ (a.now ≡ b.now) }
+{
+    a == b
+}
+
 fn same_decls(a: &[Decl], b: &[Decl]) -> bool
     ensures { IsTrue result ↔ (map blank_decl (map decl_tree a.now) ≡ map blank_decl (map decl_tree b.now)) }
 {
-    let mut rest = b;
-    for first in a {
-        let [other, others @ ..] = rest else {
-            return false;
-        };
-        if !same_decl(first, other) {
-            return false;
-        }
-        rest = others;
-    }
-    match rest {
-        [] => true,
-        [_surplus, ..] => false,
-    }
+    all_same!(a, b, same_decl)
+}
+
+fn same_directives(a: &[Directive], b: &[Directive]) -> bool
+    ensures { IsTrue result ↔ (a.now ≡ b.now) }
+{
+    all_same!(a, b, same_directive)
 }
 
 /// Whether two programs differ in nothing but places and numbers of nodes.
 pub fn same(a: &Program, b: &Program) -> bool
     ensures { IsTrue result ↔ IsSame (program_tree a.now) (program_tree b.now) }
 {
-    a.directives.as_slice() == b.directives.as_slice() && same_decls(a.decls.as_slice(), b.decls.as_slice())
+    same_directives(a.directives.as_slice(), b.directives.as_slice()) && same_decls(a.decls.as_slice(), b.decls.as_slice())
 }

@@ -102,20 +102,7 @@ fn same_printed(a: &Printed, b: &Printed) -> bool
 fn same_operands(a: &[Printed], b: &[Printed]) -> bool
     ensures { IsTrue result ↔ (map blank_printed (map printed_tree a.now) ≡ map blank_printed (map printed_tree b.now)) }
 {
-    let mut rest = b;
-    for first in a {
-        let [other, others @ ..] = rest else {
-            return false;
-        };
-        if !same_printed(first, other) {
-            return false;
-        }
-        rest = others;
-    }
-    match rest {
-        [] => true,
-        [_surplus, ..] => false,
-    }
+    all_same!(a, b, same_printed)
 }
 
 fn same_print(a: &Print, b: &Print) -> bool
@@ -154,20 +141,7 @@ fn same_stmt(a: &Stmt, b: &Stmt) -> bool
 fn same_stmts(a: &[Stmt], b: &[Stmt]) -> bool
     ensures { IsTrue result ↔ (blank_stmts (stmts_tree a.now) ≡ blank_stmts (stmts_tree b.now)) }
 {
-    let mut rest = b;
-    for first in a {
-        let [other, others @ ..] = rest else {
-            return false;
-        };
-        if !same_stmt(first, other) {
-            return false;
-        }
-        rest = others;
-    }
-    match rest {
-        [] => true,
-        [_surplus, ..] => false,
-    }
+    all_same!(a, b, same_stmt)
 }
 
 #[cycle(same_stmt)]
