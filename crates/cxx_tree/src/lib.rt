@@ -9,8 +9,10 @@
 #![tactic(auto)]
 
 mod aspect;
+mod count;
 mod equality;
 mod expr;
+mod laws;
 mod node;
 mod operator;
 mod program;
@@ -20,8 +22,10 @@ pub use aspect::{
     Advice, ArgsEntry, Aspect, AspectItem, Aspects, Moment, Order, Pointcut, PointcutDecl,
     PointcutFunction, PointcutOp, Slice, SliceItem,
 };
+pub use count::node_count;
 pub use equality::same;
 pub use expr::{Base, Call, Callee, Expr, Left, Ref, Selector};
+pub use laws::same_is_equivalence;
 pub use node::{Name, Node, Number, Placed, Quoted};
 pub use operator::{BinOp, UnOp};
 pub use program::{
