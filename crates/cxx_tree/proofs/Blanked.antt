@@ -115,7 +115,8 @@ module _ (special : SpecialName → ℕ) where
           optional-same (w.spell_start special) blank.blank_start spell_start-same start,
           optional-same (w.spell_expr special) blank.blank_expr spell_expr-same condition,
           optional-same (w.spell_simple special) blank.blank_simple spell_simple-same step,
-          spell_block-same body)
+          spell_block-same body,
+        )
     spell_stmt-same (s.return at value) = cc (optional-same (w.spell_expr special) blank.blank_expr spell_expr-same value)
     spell_stmt-same (s.delete at pointer) = cc (spell_expr-same pointer)
     spell_stmt-same (s.print q) = cc (spell_print-same q)
@@ -170,7 +171,8 @@ module _ (special : SpecialName → ℕ) where
   spell_class-same c =
       cc (
         optional-same w.spell_public_base blank.blank_placed (λ b. refl) c.base,
-        flat_map-same (w.spell_item special) blank.blank_item spell_item-same c.items)
+        flat_map-same (w.spell_item special) blank.blank_item spell_item-same c.items,
+      )
 
   spell_variable-same : (v : Variable) → w.spell_variable special (blank.blank_variable v) ≡ w.spell_variable special v
   spell_variable-same v = cc (optional-same (w.spell_constant special) blank.blank_placed (λ c. refl) v.initial)

@@ -46,12 +46,18 @@ pub(super) fn with_expr(count: u64, expr: &Expr) -> u64
         Expr::This(_) => count.saturating_add(1),
         Expr::Left(left) => with_left(count, left),
         Expr::Unary(_, _, operand) => with_expr(count.saturating_add(1), operand.get()),
-        Expr::Binary(_, _, left, right) => with_expr(with_expr(count.saturating_add(1), left.get()), right.get()),
+        Expr::Binary(_, _, left, right) => with_expr(
+            with_expr(count.saturating_add(1), left.get()),
+            right.get(),
+        ),
         Expr::Paren(_, inner) => with_expr(count.saturating_add(1), inner.get()),
         Expr::Cast(_, _, operand) => with_expr(count.saturating_add(1), operand.get()),
         Expr::Call(call) => with_call(count, call),
         Expr::New(_, _, None) => count.saturating_add(1),
-        Expr::New(_, _, Some(arguments)) => with_exprs(count.saturating_add(1), arguments.as_slice()),
+        Expr::New(_, _, Some(arguments)) => with_exprs(
+            count.saturating_add(1),
+            arguments.as_slice(),
+        ),
     }
 }
 
@@ -70,5 +76,8 @@ pub(super) fn with_exprs(count: u64, exprs: &[Expr]) -> u64
 pub(super) fn with_call(count: u64, call: &Call) -> u64
     ensures { result ≡ capped (count + nodes_in_call (call_tree call.now)) }
 {
-    with_exprs(with_callee(count.saturating_add(1), &call.callee), call.arguments.as_slice())
+    with_exprs(
+        with_callee(count.saturating_add(1), &call.callee),
+        call.arguments.as_slice(),
+    )
 }
