@@ -1,0 +1,14 @@
+pub mod ExprTree
+pub mod StmtTree
+pub mod ProgramTree
+pub mod AspectTree
+pub mod Places
+pub mod Words
+pub mod Spelling
+pub mod AspectSpelling
+pub mod Limits
+pub mod Fits
+pub mod AspectFits
+pub mod Blank
+pub mod Same
+pub mod Nodes

@@ -1,0 +1,13 @@
+//! Laws of the definitions, for the layers above.
+
+ghost use Rattle.cxx_tree.specs.Same.{SameIsEquivalence, SameIsSpelledAlike};
+
+/// Being the same but for places and numbers of nodes is an equivalence.
+pub fn same_is_equivalence()
+    ensures { SameIsEquivalence }
+{}
+
+/// Programs that are the same but for places and numbers of nodes have the same tokens.
+pub fn same_is_spelled_alike()
+    ensures { SameIsSpelledAlike }
+{}
