@@ -1,0 +1,53 @@
+//! String literals in a text.
+
+ghost use Rattle.std.specs.Prelude.{◌≡◌, ◌≤◌, ◌+◌, length, IfSome};
+ghost use Rattle.cxx_lex.specs.StringScan as scan;
+ghost use Rattle.cxx_lex.specs.Strings as strings;
+
+use crate::bytes::{begins_with, is_escape, is_plain};
+use crate::tok::{Lexeme, TokKind};
+use agxx_base::Rule;
+
+/// How many bytes of plain bytes and escapes there are behind a quote.
+pub fn body_len(text: &[u8]) -> usize
+    ensures value { result ≡ scan.body_len text.now }
+    ensures within { result ≤ length text.now }
+{
+    let mut n = 0;
+    while n < text.len() {
+        match &text[n..] {
+            [b'\\', c, ..] if is_escape(*c) => n += 2,
+            [b'\\', ..] => break,
+            [b, ..] if is_plain(*b) => n += 1,
+            _ => break,
+        }
+    }
+    n
+}
+
+/// The string whose opening quote stands before the text.
+pub fn string(text: &[u8]) -> Option<Lexeme>
+    ensures value { result ≡ scan.string_lexeme text.now }
+    ensures within { IfSome result (λ l. l.len ≤ 1 + length text.now) }
+{
+    let len = body_len(text);
+    if !begins_with(b'"', &text[len..]) {
+        return None;
+    }
+    Some(Lexeme {
+        kind: Ok(TokKind::Text),
+        len: len + 2,
+    })
+}
+
+/// The rule that a string violates which goes on so, if any.
+pub fn string_fault(text: &[u8]) -> Option<Rule>
+    ensures { result ≡ strings.string_fault text.now }
+{
+    match text {
+        [] | [b'\n', ..] | [b'\\'] | [b'\\', b'\n', ..] => Some(Rule::L2),
+        [b'"', ..] => None,
+        [b'\\', c, ..] => if is_escape(*c) { None } else { Some(Rule::L1) },
+        [b, ..] => if is_plain(*b) { None } else { Some(Rule::L1) },
+    }
+}
