@@ -51,6 +51,6 @@ suffix_len suffix.Ull = 3
 abbrev pub suffixed_lexeme : Base → ℕ → ℕ → Suffix → Lexeme
 suffixed_lexeme base value n ending = record { kind = number_verdict base value ending; len = n + suffix_len ending }
 
-abbrev pub number_lexeme : List ℕ → Lexeme
+unfoldable pub number_lexeme : List ℕ → Lexeme
 number_lexeme text =
     suffixed_lexeme (base_at text) (digits_value (base_at text) (take (digits_len text) text)) (digits_len text) (suffix_at (drop (digits_len text) text))

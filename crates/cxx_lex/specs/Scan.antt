@@ -71,5 +71,5 @@ front_of mode (b ∷ bs) = if is_blank b then front.Gap 1 else comment_or mode (
 -- how many bytes of the text an answer speaks of
 abbrev pub IsWithin : Front → ℕ → Type 0
 IsWithin (front.Gap n) length = (0 < n) × (n ≤ length)
-IsWithin (front.Token token n) length = (0 < n) × (n ≤ length)
+IsWithin (front.Token token n) length = n ≤ length
 IsWithin (front.Refused rule n) length = n ≤ length

@@ -10,13 +10,13 @@ use Rattle.cxx_lex.specs.Words.{entry_of}
 abbrev pub signs : List (List ℕ × Sign)
 signs = map (λ s. (sign_text s, s)) (sign.OpenBrace ∷ sign.CloseBrace ∷ sign.OpenParen ∷ sign.CloseParen ∷ sign.Semicolon ∷ sign.Comma ∷ sign.Colon ∷ sign.ColonColon ∷ sign.Dot ∷ sign.Arrow ∷ sign.Ellipsis ∷ sign.Plus ∷ sign.Minus ∷ sign.Star ∷ sign.Slash ∷ sign.Percent ∷ sign.And ∷ sign.Or ∷ sign.Caret ∷ sign.Tilde ∷ sign.Not ∷ sign.Less ∷ sign.Greater ∷ sign.LessEqual ∷ sign.GreaterEqual ∷ sign.EqualEqual ∷ sign.NotEqual ∷ sign.AndAnd ∷ sign.OrOr ∷ sign.ShiftLeft ∷ sign.ShiftRight ∷ sign.Assign ∷ sign.PlusAssign ∷ sign.MinusAssign ∷ sign.StarAssign ∷ sign.SlashAssign ∷ sign.PercentAssign ∷ sign.PlusPlus ∷ sign.MinusMinus ∷ [])
 
-abbrev pub one : ℕ → Option Sign
+unfoldable pub one : ℕ → Option Sign
 one b = entry_of signs (b ∷ [])
 
-abbrev pub two : ℕ → ℕ → Option Sign
+unfoldable pub two : ℕ → ℕ → Option Sign
 two b c = entry_of signs (b ∷ c ∷ [])
 
-abbrev pub three : ℕ → ℕ → ℕ → Option Sign
+unfoldable pub three : ℕ → ℕ → ℕ → Option Sign
 three b c d = entry_of signs (b ∷ c ∷ d ∷ [])
 
 -- a sign of n bytes, else another answer
@@ -24,7 +24,7 @@ abbrev pub sign_or : ℕ → Option Sign → Option Lexeme → Option Lexeme
 sign_or n None other = other
 sign_or n (Some s) other = Some (record { kind = Ok (kind.Sign s); len = n })
 
-abbrev pub sign_lexeme : List ℕ → Option Lexeme
+unfoldable pub sign_lexeme : List ℕ → Option Lexeme
 sign_lexeme [] = None
 sign_lexeme (b ∷ []) = sign_or 1 (one b) None
 sign_lexeme (b ∷ c ∷ []) = sign_or 2 (two b c) (sign_or 1 (one b) None)

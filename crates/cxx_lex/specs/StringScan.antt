@@ -15,5 +15,5 @@ abbrev mutual
   escape_len [] = 0
   escape_len (c ∷ cs) = if is_escape c then suc (suc (body_len cs)) else 0
 
-abbrev pub string_lexeme : List ℕ → Option Lexeme
+unfoldable pub string_lexeme : List ℕ → Option Lexeme
 string_lexeme text = if begins_with 34 (drop (body_len text) text) then Some (record { kind = Ok kind.Text; len = suc (suc (body_len text)) }) else None

@@ -6,5 +6,5 @@ use Rattle.cxx_lex.specs.Bytes.{is_part}
 use Rattle.cxx_lex.specs.Words.{word_verdict}
 use Rattle.cxx_lex.specs.Runs.{run}
 
-abbrev pub word_lexeme : Mode → List ℕ → Lexeme
+unfoldable pub word_lexeme : Mode → List ℕ → Lexeme
 word_lexeme mode text = record { kind = word_verdict mode (take (run is_part text) text); len = run is_part text }

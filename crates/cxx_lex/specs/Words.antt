@@ -31,7 +31,7 @@ abbrev pub entry_of : {A : Type 0} → List (List ℕ × A) → List ℕ → Opt
 entry_of [] text = None
 entry_of (e ∷ es) text = if bytes_eq text e.0 then Some e.1 else entry_of es text
 
-abbrev pub keyword_of : List ℕ → Option Keyword
+unfoldable pub keyword_of : List ℕ → Option Keyword
 keyword_of text = entry_of keywords text
 
 -- how many bytes a name may have

@@ -2,6 +2,7 @@
 
 ghost use Rattle.std.specs.Prelude.{◌≡◌, ◌≤◌, length};
 ghost use Rattle.cxx_lex.specs.Bytes as bytes;
+ghost use Rattle.cxx_lex.specs.Runs as runs;
 ghost use Rattle.cxx_lex.specs.Runs.{run};
 
 fn is_within(low: u8, high: u8, b: u8) -> bool
@@ -78,56 +79,38 @@ pub fn has_pair(a: u8, b: u8, text: &[u8]) -> bool
     false
 }
 
-pub fn space_len(text: &[u8]) -> usize
-    ensures value { result ≡ run bytes.is_space text.now }
-    ensures within { result ≤ length text.now }
-{
-    let mut n = 0;
-    while n < text.len() && is_space(text[n]) {
-        n += 1;
-    }
-    n
+/// A class of bytes that fronts of a text are made of.
+#[derive(Clone, Copy, Debug, PartialEq, Eq)]
+pub enum Class {
+    /// A blank that doesn't end its line.
+    Space,
+    /// A byte of a name.
+    Part,
+    Digit,
+    Hexadecimal,
+    /// Any byte but a newline.
+    InLine,
 }
 
-pub fn part_len(text: &[u8]) -> usize
-    ensures value { result ≡ run bytes.is_part text.now }
-    ensures within { result ≤ length text.now }
+fn has(class: Class, b: u8) -> bool
+    ensures { result ≡ runs.has class b }
 {
-    let mut n = 0;
-    while n < text.len() && is_part(text[n]) {
-        n += 1;
+    match class {
+        Class::Space => is_space(b),
+        Class::Part => is_part(b),
+        Class::Digit => is_digit(b),
+        Class::Hexadecimal => is_hexadecimal(b),
+        Class::InLine => b != b'\n',
     }
-    n
 }
 
-pub fn digit_len(text: &[u8]) -> usize
-    ensures value { result ≡ run bytes.is_digit text.now }
+/// How many bytes of the class the text begins with.
+pub fn run_len(class: Class, text: &[u8]) -> usize
+    ensures value { result ≡ run (runs.has class) text.now }
     ensures within { result ≤ length text.now }
 {
     let mut n = 0;
-    while n < text.len() && is_digit(text[n]) {
-        n += 1;
-    }
-    n
-}
-
-pub fn hexadecimal_len(text: &[u8]) -> usize
-    ensures value { result ≡ run bytes.is_hexadecimal text.now }
-    ensures within { result ≤ length text.now }
-{
-    let mut n = 0;
-    while n < text.len() && is_hexadecimal(text[n]) {
-        n += 1;
-    }
-    n
-}
-
-pub fn line_len(text: &[u8]) -> usize
-    ensures value { result ≡ run bytes.is_in_line text.now }
-    ensures within { result ≤ length text.now }
-{
-    let mut n = 0;
-    while n < text.len() && text[n] != b'\n' {
+    while n < text.len() && has(class, text[n]) {
         n += 1;
     }
     n

@@ -1,32 +1,26 @@
 //! `#include <..>` and `#pragma once`.
 
-ghost use Rattle.std.specs.Prelude.{◌≡◌, ◌≤◌, ◌+◌, ◌<◌, ◌^◌, length, true, IfSome};
+ghost use Rattle.std.specs.Prelude.{◌≡◌, ◌≤◌, ◌+◌, ◌<◌, ◌^◌, length, IfSome};
 ghost use Rattle.cxx_lex.specs.DirectiveScan as scan;
 ghost use Rattle.cxx_lex.specs.Directives.{bracketed};
 
-use crate::bytes::space_len;
+use crate::bytes::{Class, run_len};
 use crate::tok::{Lexeme, TokKind};
 use agxx_base::Header;
 
-fn stands(word: &[u8], text: &[u8]) -> bool
-    ensures value { result ≡ scan.stands word.now text.now }
-    ensures within { result ≡ true → length word.now ≤ length text.now }
-{
-    text.len() >= word.len() && &text[..word.len()] == word
-}
-
 fn header_at(text: &[u8]) -> Option<Header>
-    ensures { result ≡ scan.header_at text.now }
+    ensures value { result ≡ scan.header_at text.now }
+    ensures within { IfSome result (λ h. length (bracketed h) ≤ length text.now) }
 {
-    if stands(b"<cstdint>", text) {
+    if text.starts_with(b"<cstdint>") {
         Some(Header::Cstdint)
-    } else if stands(b"<cstdlib>", text) {
+    } else if text.starts_with(b"<cstdlib>") {
         Some(Header::Cstdlib)
-    } else if stands(b"<iostream>", text) {
+    } else if text.starts_with(b"<iostream>") {
         Some(Header::Iostream)
-    } else if stands(b"<mutex>", text) {
+    } else if text.starts_with(b"<mutex>") {
         Some(Header::Mutex)
-    } else if stands(b"<thread>", text) {
+    } else if text.starts_with(b"<thread>") {
         Some(Header::Thread)
     } else {
         None
@@ -50,7 +44,7 @@ fn include(before: usize, text: &[u8]) -> Option<Lexeme>
     ensures value { result ≡ scan.include_lexeme before text.now }
     ensures within { IfSome result (λ l. l.len ≤ before + length text.now) }
 {
-    let gap = space_len(text);
+    let gap = run_len(Class::Space, text);
     let header = header_at(&text[gap..])?;
     Some(Lexeme {
         kind: Ok(TokKind::Include(header)),
@@ -64,8 +58,8 @@ fn pragma(before: usize, text: &[u8]) -> Option<Lexeme>
     ensures value { result ≡ scan.pragma_lexeme before text.now }
     ensures within { IfSome result (λ l. l.len ≤ before + length text.now) }
 {
-    let gap = space_len(text);
-    if gap == 0 || !stands(b"once", &text[gap..]) {
+    let gap = run_len(Class::Space, text);
+    if gap == 0 || !text[gap..].starts_with(b"once") {
         return None;
     }
     Some(Lexeme {
@@ -75,16 +69,17 @@ fn pragma(before: usize, text: &[u8]) -> Option<Lexeme>
 }
 
 /// The directive whose `#` stands before the text.
+#[tactic(auto, unfolding(crate::specs::DirectiveScan::directive_lexeme))]
 pub fn directive(text: &[u8]) -> Option<Lexeme>
     requires { length text.now < 2 ^ 31 }
     ensures value { result ≡ scan.directive_lexeme text.now }
     ensures within { IfSome result (λ l. l.len ≤ 1 + length text.now) }
 {
-    let gap = space_len(text);
+    let gap = run_len(Class::Space, text);
     let words = &text[gap..];
-    if stands(b"include", words) {
+    if words.starts_with(b"include") {
         include(gap + 8, &words[7..])
-    } else if stands(b"pragma", words) {
+    } else if words.starts_with(b"pragma") {
         pragma(gap + 7, &words[6..])
     } else {
         None

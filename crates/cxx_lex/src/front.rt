@@ -5,7 +5,7 @@ ghost use Rattle.cxx_lex.specs.Runs as runs;
 ghost use Rattle.cxx_lex.specs.Tokens as tokens;
 ghost use Rattle.cxx_lex.specs.Scan as scan;
 
-use crate::bytes::{begins_with, is_blank, is_digit, is_letter, is_part, line_len};
+use crate::bytes::{Class, is_blank, is_digit, is_letter, is_part, run_len};
 use crate::directives::directive;
 use crate::numbers::number;
 use crate::signs::sign;
@@ -47,6 +47,15 @@ fn lexeme(mode: Mode, text: &[u8]) -> Option<Lexeme>
     }
 }
 
+fn closes(text: &[u8]) -> bool
+    ensures { result ≡ runs.closes text.now }
+{
+    match text {
+        [b, c, ..] => *b == b'*' && *c == b'/',
+        _ => false,
+    }
+}
+
 /// How many bytes there are to the end of the first `*/`.
 fn close_len(text: &[u8]) -> Option<usize>
     ensures value { result ≡ runs.close_len text.now }
@@ -54,7 +63,7 @@ fn close_len(text: &[u8]) -> Option<usize>
 {
     let mut n = 0;
     while n < text.len() {
-        if text[n] == b'*' && begins_with(b'/', &text[n + 1..]) {
+        if closes(&text[n..]) {
             return Some(n + 2);
         }
         n += 1;
@@ -68,7 +77,7 @@ fn comment(text: &[u8]) -> Option<Front>
     ensures within { IfSome result (λ f. scan.IsWithin f (length text.now)) }
 {
     match text {
-        [b'/', b'/', rest @ ..] => Some(Front::Gap(line_len(rest) + 2)),
+        [b'/', b'/', rest @ ..] => Some(Front::Gap(run_len(Class::InLine, rest) + 2)),
         [b'/', b'*', rest @ ..] => Some(match close_len(rest) {
             Some(len) => Front::Gap(len + 2),
             None => Front::Refused(Rule::L2, 0),

@@ -1,11 +1,11 @@
 //! Numbers.
 
-ghost use Rattle.std.specs.Prelude.{◌≡◌, ◌≤◌, ◌<◌, ◌^◌, ◌+◌, length, nat_lt, IfSome, IfNone};
+ghost use Rattle.std.specs.Prelude.{◌≡◌, ◌≤◌, ◌<◌, ◌^◌, ◌+◌, ◌*◌, length, nat_lt, IfSome, IfNone};
 ghost use Rattle.agxx_base.specs.declared.rule.Rule.TheVariants.{L3};
 ghost use Rattle.cxx_lex.specs.Numbers as numbers;
 ghost use Rattle.cxx_lex.specs.NumberScan as scan;
 
-use crate::bytes::{begins_with, digit_len, hexadecimal_len, is_hexadecimal};
+use crate::bytes::{Class, begins_with, is_hexadecimal, run_len};
 use crate::tok::{Lexeme, TokKind};
 use agxx_base::{NumKind, Rule};
 
@@ -50,12 +50,12 @@ fn digits_len(text: &[u8]) -> usize
     ensures within { result ≤ length text.now }
 {
     if is_prefixed(text) {
-        return 2 + hexadecimal_len(&text[2..]);
+        return 2 + run_len(Class::Hexadecimal, &text[2..]);
     }
     if begins_with(b'0', text) {
         return 1;
     }
-    digit_len(text)
+    run_len(Class::Digit, text)
 }
 
 fn digit_value(b: u8) -> u64
@@ -71,14 +71,21 @@ fn digit_value(b: u8) -> u64
     if b'7' <= b { (b - b'7') as u64 } else { 0 }
 }
 
+/// The value with one more digit, where it is below 2^64.
+fn with_digit(radix: u64, value: u64, digit: u8) -> Option<u64>
+    ensures { result ≡ scan.held (value * radix + numbers.digit_value digit) }
+{
+    value.checked_mul(radix)?.checked_add(digit_value(digit))
+}
+
 /// The number that digits stand for, where it is below 2^64.
 fn in_base(radix: u64, digits: &[u8]) -> Option<u64>
-    requires { radix < 17 }
+    requires { 0 < radix }
     ensures { result ≡ scan.held (numbers.in_base radix digits.now) }
 {
     let mut value: u64 = 0;
     for digit in digits {
-        value = value.checked_mul(radix)?.checked_add(digit_value(*digit))?;
+        value = with_digit(radix, value, *digit)?;
     }
     Some(value)
 }
@@ -203,6 +210,7 @@ fn number_verdict(base: Base, suffix: Suffix, value: Option<u64>) -> Result<TokK
 }
 
 /// The number at the front of a text that begins with a digit.
+#[tactic(auto, unfolding(crate::specs::NumberScan::number_lexeme))]
 pub fn number(text: &[u8]) -> Lexeme
     ensures value { result ≡ scan.number_lexeme text.now }
     ensures within { result.len ≤ length text.now }

@@ -6,6 +6,7 @@ ghost use Rattle.cxx_lex.specs.SignScan as scan;
 use crate::tok::{Lexeme, TokKind};
 use agxx_base::Sign;
 
+#[tactic(auto, unfolding(crate::specs::SignScan::one))]
 fn one(b: u8) -> Option<Sign>
     ensures { result ≡ scan.one b }
 {
@@ -36,6 +37,7 @@ fn one(b: u8) -> Option<Sign>
 }
 
 /// A sign with `=` at its end.
+#[tactic(auto, unfolding(crate::specs::SignScan::two))]
 fn with_equal(b: u8) -> Option<Sign>
     ensures { result ≡ scan.two b 61 }
 {
@@ -53,6 +55,7 @@ fn with_equal(b: u8) -> Option<Sign>
     }
 }
 
+#[tactic(auto, unfolding(crate::specs::SignScan::two))]
 fn two(b: u8, c: u8) -> Option<Sign>
     ensures { result ≡ scan.two b c }
 {
@@ -72,6 +75,7 @@ fn two(b: u8, c: u8) -> Option<Sign>
     }
 }
 
+#[tactic(auto, unfolding(crate::specs::SignScan::three))]
 fn three(b: u8, c: u8, d: u8) -> Option<Sign>
     ensures { result ≡ scan.three b c d }
 {
@@ -96,6 +100,7 @@ fn sign_or(len: usize, sign: Option<Sign>, other: Option<Lexeme>) -> Option<Lexe
 }
 
 /// The sign at the front of a text.
+#[tactic(auto, unfolding(crate::specs::SignScan::sign_lexeme))]
 pub fn sign(text: &[u8]) -> Option<Lexeme>
     ensures value { result ≡ scan.sign_lexeme text.now }
     ensures within { IfSome result (λ l. l.len ≤ length text.now) }

@@ -26,6 +26,7 @@ pub fn body_len(text: &[u8]) -> usize
 }
 
 /// The string whose opening quote stands before the text.
+#[tactic(auto, unfolding(crate::specs::StringScan::string_lexeme))]
 pub fn string(text: &[u8]) -> Option<Lexeme>
     ensures value { result ≡ scan.string_lexeme text.now }
     ensures within { IfSome result (λ l. l.len ≤ 1 + length text.now) }

@@ -2,4 +2,3 @@
 
 use crate::{LexStep, Lexer, Tok, TokKind, lex_all, string_bytes};
 use agxx_base::{Fault, Header, Keyword, Mode, NumKind, Place, Refusal, Rule, Sign};
-

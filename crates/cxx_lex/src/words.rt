@@ -4,7 +4,7 @@ ghost use Rattle.std.specs.Prelude.{◌≡◌, ◌≤◌, length};
 ghost use Rattle.cxx_lex.specs.Words as words;
 ghost use Rattle.cxx_lex.specs.WordScan as scan;
 
-use crate::bytes::{has_pair, part_len};
+use crate::bytes::{Class, has_pair, run_len};
 use crate::keywords::keyword;
 use crate::tok::{Lexeme, TokKind};
 use agxx_base::{Mode, Rule};
@@ -49,11 +49,12 @@ fn word_verdict(mode: Mode, word: &[u8]) -> Result<TokKind, Rule>
 }
 
 /// The word at the front of a text that begins with a letter.
+#[tactic(auto, unfolding(crate::specs::WordScan::word_lexeme))]
 pub fn word(mode: Mode, text: &[u8]) -> Lexeme
     ensures value { result ≡ scan.word_lexeme mode text.now }
     ensures within { result.len ≤ length text.now }
 {
-    let len = part_len(text);
+    let len = run_len(Class::Part, text);
     Lexeme {
         kind: word_verdict(mode, &text[..len]),
         len,
