@@ -2,3 +2,5 @@ pub mod Runs
 pub mod Tables
 pub mod NumberValues
 pub mod Closes
+pub mod StringCut
+pub mod SignCut
