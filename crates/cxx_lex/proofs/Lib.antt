@@ -4,3 +4,4 @@ pub mod NumberValues
 pub mod Closes
 pub mod StringCut
 pub mod SignCut
+pub mod NumberCut
