@@ -5,3 +5,6 @@ pub mod Closes
 pub mod StringCut
 pub mod SignCut
 pub mod NumberCut
+pub mod DirectiveCut
+pub mod Members
+pub mod Cut

@@ -1,5 +1,5 @@
 -- Numbers at the front of a text.
-use Rattle.std.proofs.Common.{◌≡◌, ◌≢◌, ℕ, zero, suc, ◌≤◌, ◌<◌, ◌+◌, Bool, true, false, cond, List, [], ◌∷◌, ◌++◌, take, drop, length, length-append, append_assoc, append-nil, codes, Option, Some, None, Ok, ◌⊎◌, inl, inr, refl, sym, ap, ◌∙◌, subst, arith}
+use Rattle.std.proofs.Common.{◌≡◌, ◌≢◌, ℕ, zero, suc, ◌≤◌, ◌<◌, ◌+◌, Bool, true, false, cond, List, [], ◌∷◌, ◌++◌, take, drop, length, length-append, length-drop, append_assoc, append-nil, codes, Option, Some, None, Ok, ◌⊎◌, inl, inr, refl, sym, ap, ◌∙◌, subst, arith}
 use Rattle.std.specs.Prelude.{◌==◌, ◌&&◌, ◌||◌, not}
 use Rattle.std.specs.List.{list_all}
 use Rattle.std.proofs.lemmas.Bool.{eqb-true}
@@ -188,3 +188,88 @@ numeral-cut b bs d = go (is_prefixed (b ∷ bs)) refl
     go : (x : Bool) → is_prefixed (b ∷ bs) ≡ x → IsNumeralCut (b ∷ bs)
     go true e = let s = prefixed-shape (b ∷ bs) e in subst IsNumeralCut (sym s.3) (hexadecimal-cut s.0 s.1 s.2 s.4 s.5)
     go false e = decimal-cut b bs d (b == 48) refl e
+
+-- ---- whole numbers
+
+pub number-first : (base : Base) (value : ℕ) (ending : Suffix) (b : ℕ) (bs : List ℕ) → IsNumber base value ending (b ∷ bs) → is_digit b ≡ true
+number-first base value ending b bs n = go n.digits n.numeral n.parts
+  where
+    go : (digits : List ℕ) → IsNumeral base value digits → b ∷ bs ≡ digits ++ n.rest → is_digit b ≡ true
+    go [] i e = absurd (no-numeral base value i)
+    go (d ∷ ds) i e = let s : b ≡ d = cc in ap is_digit s ∙ numeral-first base value d ds i
+
+pub no-number : (base : Base) (value : ℕ) (ending : Suffix) → IsNumber base value ending [] → ⊥
+no-number base value ending n = go n.digits n.numeral n.parts
+  where
+    go : (digits : List ℕ) → IsNumeral base value digits → [] ≡ digits ++ n.rest → ⊥
+    go [] i e = no-numeral base value i
+    go (d ∷ ds) i e = cc
+
+pub number-most : (base : Base) (value : ℕ) (ending : Suffix) (front behind text : List ℕ) → IsNumber base value ending front → text ≡ front ++ behind
+    → length front ≤ digits_len text + suffix_len (suffix_at (drop (digits_len text) text))
+number-most base value ending front behind text n e = go n.rest n.parts n.suffix
+  where
+    go : (rest : List ℕ) → front ≡ n.digits ++ rest → entry_of suffixes rest ≡ Some ending → length front ≤ digits_len text + suffix_len (suffix_at (drop (digits_len text) text))
+    go [] p s =
+        let whole : text ≡ n.digits ++ behind = e ∙ ap (λ z. z ++ behind) (p ∙ append-nil n.digits) in
+        let m : length n.digits ≤ digits_len text = subst (λ z. length n.digits ≤ digits_len z) (sym whole) (numeral-most base value n.digits behind n.numeral) in
+        omega (arith, m, ap length (p ∙ append-nil n.digits))
+    go (c ∷ cs) p s =
+        let whole : text ≡ n.digits ++ ((c ∷ cs) ++ behind) = e ∙ ap (λ z. z ++ behind) p ∙ append_assoc n.digits (c ∷ cs) behind in
+        let x : digits_len text ≡ length n.digits = ap digits_len whole ∙ (numeral-exact base value n.digits ((c ∷ cs) ++ behind) n.numeral (suffix-apart (c ∷ cs) ending s behind (λ h. cc))).0 in
+        let d : drop (digits_len text) text ≡ (c ∷ cs) ++ behind = ap (λ k. drop k text) x ∙ ap (drop (length n.digits)) whole ∙ drop-append_seam n.digits ((c ∷ cs) ++ behind) in
+        let m : length (c ∷ cs) ≤ suffix_len (suffix_at (drop (digits_len text) text)) = subst (λ z. length (c ∷ cs) ≤ suffix_len (suffix_at z)) (sym d) (suffix-most (c ∷ cs) behind ending s) in
+        omega (arith, m, x, ap length p, length-append n.digits (c ∷ cs))
+
+-- base, value and suffix are those that the text itself has
+abbrev IsNumberOf : List ℕ → Base → ℕ → Suffix → Type 0
+IsNumberOf text base value ending = (base_at text ≡ base) × (digits_value (base_at text) (take (digits_len text) text) ≡ value) × (entry_of suffixes (drop (digits_len text) text) ≡ Some ending)
+
+number-of : (base : Base) (value : ℕ) (ending : Suffix) (text : List ℕ) → IsNumber base value ending text → IsNumberOf text base value ending
+number-of base value ending text n =
+    let x = numeral-exact base value n.digits n.rest n.numeral (suffix-alone n.rest ending n.suffix) in
+    let b : base_at text ≡ base = ap base_at n.parts ∙ x.1 in
+    let l : digits_len text ≡ length n.digits = ap digits_len n.parts ∙ x.0 in
+    let t : take (digits_len text) text ≡ n.digits = ap (λ k. take k text) l ∙ ap (take (length n.digits)) n.parts ∙ take-append_seam n.digits n.rest in
+    let d : drop (digits_len text) text ≡ n.rest = ap (λ k. drop k text) l ∙ ap (drop (length n.digits)) n.parts ∙ drop-append_seam n.digits n.rest in
+    (b, ap (λ z. digits_value z (take (digits_len text) text)) b ∙ ap (digits_value base) t ∙ x.2, ap (entry_of suffixes) d ∙ n.suffix)
+
+pub number-unique : (base radix : Base) (value other : ℕ) (ending last : Suffix) (text : List ℕ) → IsNumber base value ending text → IsNumber radix other last text → number_verdict base value ending ≡ number_verdict radix other last
+number-unique base radix value other ending last text n m =
+    let x = number-of base value ending text n in let y = number-of radix other last text m in
+    let e : Some ending ≡ Some last = sym x.2 ∙ y.2 in
+    let s : ending ≡ last = cc in
+    ap (λ z. number_verdict z value ending) (sym x.0 ∙ y.0) ∙ ap (λ z. number_verdict radix z ending) (sym x.1 ∙ y.1) ∙ ap (number_verdict radix other) s
+
+-- the number that is found stands here
+pub record IsNumberCut (text : List ℕ) (l : Lexeme) : Type 0 where
+  pub base : Base
+  pub value : ℕ
+  pub ending : Suffix
+  pub number : IsNumber base value ending (take l.len text)
+  pub kind : l.kind ≡ number_verdict base value ending
+  pub some : (m : ℕ) × (l.len ≡ suc m)
+  pub within : l.len ≤ length text
+  pub longest : (radix : Base) (other : ℕ) (last : Suffix) (front behind : List ℕ) → IsNumber radix other last front → text ≡ front ++ behind → length front ≤ l.len
+
+pub number-cut : (b : ℕ) (bs : List ℕ) → is_digit b ≡ true → IsNumberCut (b ∷ bs) (number_lexeme (b ∷ bs))
+unfolding number_lexeme
+number-cut b bs d =
+    let n = numeral-cut b bs d in
+    let s = suffix-cut (drop (digits_len (b ∷ bs)) (b ∷ bs)) in
+    record {
+      base = base_at (b ∷ bs);
+      value = digits_value (base_at (b ∷ bs)) (take (digits_len (b ∷ bs)) (b ∷ bs));
+      ending = suffix_at (drop (digits_len (b ∷ bs)) (b ∷ bs));
+      number = record {
+        digits = take (digits_len (b ∷ bs)) (b ∷ bs);
+        rest = take (suffix_len (suffix_at (drop (digits_len (b ∷ bs)) (b ∷ bs)))) (drop (digits_len (b ∷ bs)) (b ∷ bs));
+        parts = take-add (digits_len (b ∷ bs)) (suffix_len (suffix_at (drop (digits_len (b ∷ bs)) (b ∷ bs)))) (b ∷ bs);
+        numeral = n.0;
+        suffix = s.0;
+      };
+      kind = refl;
+      some = (n.1.0 + suffix_len (suffix_at (drop (digits_len (b ∷ bs)) (b ∷ bs))), omega (arith, n.1.1));
+      within = omega (arith, s.1, n.2, length-drop (digits_len (b ∷ bs)) (b ∷ bs));
+      longest = λ radix other last front behind m e. number-most radix other last front behind (b ∷ bs) m e;
+    }

@@ -17,8 +17,11 @@ abbrev pub first_header : List Header → List ℕ → Option Header
 first_header [] text = None
 first_header (h ∷ hs) text = if stands (bracketed h) text then Some h else first_header hs text
 
+abbrev pub headers : List Header
+headers = header.Cstdint ∷ header.Cstdlib ∷ header.Iostream ∷ header.Mutex ∷ header.Thread ∷ []
+
 abbrev pub header_at : List ℕ → Option Header
-header_at text = first_header (header.Cstdint ∷ header.Cstdlib ∷ header.Iostream ∷ header.Mutex ∷ header.Thread ∷ []) text
+header_at text = first_header headers text
 
 abbrev pub header_lexeme : ℕ → Option Header → Option Lexeme
 header_lexeme n None = None
