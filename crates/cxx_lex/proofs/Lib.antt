@@ -8,3 +8,6 @@ pub mod NumberCut
 pub mod DirectiveCut
 pub mod Members
 pub mod Cut
+pub mod Comments
+pub mod Fronts
+pub mod Readings

@@ -6,8 +6,8 @@ use Rattle.std.proofs.lemmas.Bool.{eqb-true}
 use Rattle.std.proofs.lemmas.Bool.Decides.{nat_tests}
 use Rattle.std.proofs.lemmas.List.{take-append-drop}
 use Rattle.std.proofs.Math.Seq.{drop-append_seam}
-use Rattle.agxx_base.specs.declared.rule.Rule.{Rule}
-use Rattle.agxx_base.specs.declared.rule.Rule.TheVariants.{L1, L2}
+use Rattle.cxx_lex.specs.declared.strings.StringFault.{StringFault}
+use Rattle.cxx_lex.specs.declared.strings.StringFault.TheVariants.{Unclosed, BadByte}
 use Rattle.cxx_lex.specs.declared.tok.Lexeme.{Lexeme}
 use Rattle.cxx_lex.specs.declared.tok.TokKind.TheVariants as kind
 use Rattle.cxx_lex.specs.Bytes.{is_plain, is_escape, begins_with}
@@ -129,7 +129,7 @@ escape-ends : (cs : List ℕ) → escape_len cs ≡ 0 → escape_fault cs ≡ No
 escape-ends [] z n = cc
 escape-ends (c ∷ cs) z n = go (c == 10) (is_escape c) n z
   where
-    go : (x y : Bool) → cond x (Some L2) (cond y None (Some L1)) ≡ None → cond y (suc (suc (body_len cs))) 0 ≡ 0 → ⊥
+    go : (x y : Bool) → cond x (Some Unclosed) (cond y None (Some BadByte)) ≡ None → cond y (suc (suc (body_len cs))) 0 ≡ 0 → ⊥
     go true y m k = cc
     go false true m k = absurd (omega (arith, k))
     go false false m k = cc
@@ -138,7 +138,7 @@ body-ends : (rest : List ℕ) → body_len rest ≡ 0 → string_fault rest ≡ 
 body-ends [] z n = cc
 body-ends (b ∷ bs) z n = go (b == 10) (b == 92) (b == 34) (is_plain b) n z
   where
-    go : (w x y p : Bool) → cond w (Some L2) (cond x (escape_fault bs) (cond (y || p) None (Some L1))) ≡ None → cond x (escape_len bs) (cond p (suc (body_len bs)) 0) ≡ 0 → y ≡ true
+    go : (w x y p : Bool) → cond w (Some Unclosed) (cond x (escape_fault bs) (cond (y || p) None (Some BadByte))) ≡ None → cond x (escape_len bs) (cond p (suc (body_len bs)) 0) ≡ 0 → y ≡ true
     go true x y p m k = cc
     go false true y p m k = absurd (escape-ends bs k m)
     go false false true p m k = refl
@@ -149,20 +149,20 @@ pub string-ends : (text : List ℕ) → string_fault (drop (body_len text) text)
 string-ends text = body-ends (drop (body_len text) text) (body-rest text)
 
 -- at a fault no body goes on, and no quote stands
-escape-fails : (cs : List ℕ) (rule : Rule) → escape_fault cs ≡ Some rule → escape_len cs ≡ 0
-escape-fails [] rule e = refl
-escape-fails (c ∷ cs) rule e = go (c == 10) refl (is_escape c) refl e
+escape-fails : (cs : List ℕ) (fault : StringFault) → escape_fault cs ≡ Some fault → escape_len cs ≡ 0
+escape-fails [] fault e = refl
+escape-fails (c ∷ cs) fault e = go (c == 10) refl (is_escape c) refl e
   where
-    go : (x : Bool) → (c == 10) ≡ x → (y : Bool) → is_escape c ≡ y → cond x (Some L2) (cond y None (Some L1)) ≡ Some rule → cond y (suc (suc (body_len cs))) 0 ≡ 0
+    go : (x : Bool) → (c == 10) ≡ x → (y : Bool) → is_escape c ≡ y → cond x (Some Unclosed) (cond y None (Some BadByte)) ≡ Some fault → cond y (suc (suc (body_len cs))) 0 ≡ 0
     go x f false g m = refl
     go true f true g m = let k : false ≡ true = sym (ap is_escape (eqb-true c 10 f)) ∙ g in cc
     go false f true g m = cc
 
-pub body-fails : (rest : List ℕ) (rule : Rule) → string_fault rest ≡ Some rule → (body_len rest ≡ 0) × (begins_with 34 rest ≡ false)
-body-fails [] rule e = (refl, refl)
-body-fails (b ∷ bs) rule e = go (b == 10) refl (b == 92) refl (b == 34) refl (is_plain b) refl e
+pub body-fails : (rest : List ℕ) (fault : StringFault) → string_fault rest ≡ Some fault → (body_len rest ≡ 0) × (begins_with 34 rest ≡ false)
+body-fails [] fault e = (refl, refl)
+body-fails (b ∷ bs) fault e = go (b == 10) refl (b == 92) refl (b == 34) refl (is_plain b) refl e
   where
-    go : (w : Bool) → (b == 10) ≡ w → (x : Bool) → (b == 92) ≡ x → (y : Bool) → (b == 34) ≡ y → (p : Bool) → is_plain b ≡ p → cond w (Some L2) (cond x (escape_fault bs) (cond (y || p) None (Some L1))) ≡ Some rule
+    go : (w : Bool) → (b == 10) ≡ w → (x : Bool) → (b == 92) ≡ x → (y : Bool) → (b == 34) ≡ y → (p : Bool) → is_plain b ≡ p → cond w (Some Unclosed) (cond x (escape_fault bs) (cond (y || p) None (Some BadByte))) ≡ Some fault
         → (cond x (escape_len bs) (cond p (suc (body_len bs)) 0) ≡ 0) × (y ≡ false)
     go true f x g y h p i m = (absurd-less x g p i, no-quote y h)
       where
@@ -176,7 +176,7 @@ body-fails (b ∷ bs) rule e = go (b == 10) refl (b == 92) refl (b == 34) refl (
 
         no-quote : (y : Bool) → (b == 34) ≡ y → y ≡ false
         no-quote y h = sym h ∙ ap (λ z. z == 34) s
-    go false f true g y h p i m = (escape-fails bs rule m, sym h ∙ ap (λ z. z == 34) (eqb-true b 92 g))
+    go false f true g y h p i m = (escape-fails bs fault m, sym h ∙ ap (λ z. z == 34) (eqb-true b 92 g))
     go false f false g true h p i m = cc
     go false f false g false h true i m = cc
     go false f false g false h false i m = (refl, refl)

@@ -3,6 +3,8 @@ use Rattle.std.specs.Prelude.{ℕ, suc, ◌<◌, ◌≤◌, Bool, true, false, i
 use Rattle.agxx_base.specs.declared.kind.Mode.{Mode}
 use Rattle.agxx_base.specs.declared.rule.Rule.{Rule}
 use Rattle.agxx_base.specs.declared.rule.Rule.TheVariants.{L1, L2}
+use Rattle.cxx_lex.specs.declared.strings.StringFault.{StringFault}
+use Rattle.cxx_lex.specs.declared.strings.StringFault.TheVariants.{Unclosed, BadByte}
 use Rattle.cxx_lex.specs.declared.tok.Lexeme.{Lexeme}
 use Rattle.cxx_lex.specs.declared.tok.TokKind.{TokKind}
 use Rattle.cxx_lex.specs.declared.front.Front.{Front}
@@ -37,10 +39,10 @@ comment_front (b ∷ []) = None
 comment_front (b ∷ c ∷ cs) =
     if b == 47 then (if c == 47 then Some (front.Gap (suc (suc (run is_in_line cs)))) else (if c == 42 then Some (block_front (close_len cs)) else None)) else None
 
-abbrev pub string_front : ℕ → Option Rule → Front
+abbrev pub string_front : ℕ → Option StringFault → Front
 string_front n None = front.Refused L1 0
-string_front n (Some L1) = front.Refused L1 (suc n)
-string_front n (Some rule) = front.Refused rule 0
+string_front n (Some Unclosed) = front.Refused L2 0
+string_front n (Some BadByte) = front.Refused L1 (suc n)
 
 -- where no member of the sets stands
 abbrev pub nothing_front : List ℕ → Front

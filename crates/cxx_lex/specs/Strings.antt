@@ -1,8 +1,8 @@
 -- String literals.
 use Rattle.std.specs.Prelude.{◌≡◌, ℕ, Bool, true, false, ◌||◌, if◌then◌else◌, ◌==◌, List, [], ◌∷◌, ◌++◌, Option, Some, None}
 use Rattle.std.specs.List.{list_all}
-use Rattle.agxx_base.specs.declared.rule.Rule.{Rule}
-use Rattle.agxx_base.specs.declared.rule.Rule.TheVariants.{L1, L2}
+use Rattle.cxx_lex.specs.declared.strings.StringFault.{StringFault}
+use Rattle.cxx_lex.specs.declared.strings.StringFault.TheVariants.{Unclosed, BadByte}
 use Rattle.cxx_lex.specs.Bytes.{is_within, is_plain, is_escape}
 
 -- a byte that a literal may stand for: 32 to 126, tab and newline
@@ -25,13 +25,13 @@ abbrev pub IsString : List ℕ → List ℕ → Type 0
 IsString value text = (list_all is_character value ≡ true) × (text ≡ quoted value)
 
 -- what is wrong with a string that goes on so: its line or file ends, also behind a backslash, or a byte or an escape is none of the language's
-abbrev pub escape_fault : List ℕ → Option Rule
-escape_fault [] = Some L2
-escape_fault (c ∷ cs) = if c == 10 then Some L2 else (if is_escape c then None else Some L1)
+abbrev pub escape_fault : List ℕ → Option StringFault
+escape_fault [] = Some Unclosed
+escape_fault (c ∷ cs) = if c == 10 then Some Unclosed else (if is_escape c then None else Some BadByte)
 
-abbrev pub string_fault : List ℕ → Option Rule
-string_fault [] = Some L2
-string_fault (b ∷ bs) = if b == 10 then Some L2 else (if b == 92 then escape_fault bs else (if b == 34 || is_plain b then None else Some L1))
+abbrev pub string_fault : List ℕ → Option StringFault
+string_fault [] = Some Unclosed
+string_fault (b ∷ bs) = if b == 10 then Some Unclosed else (if b == 92 then escape_fault bs else (if b == 34 || is_plain b then None else Some BadByte))
 
 abbrev pub escape_value : ℕ → ℕ
 escape_value c = if c == 110 then 10 else (if c == 116 then 9 else c)

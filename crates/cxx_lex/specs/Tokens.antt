@@ -6,6 +6,7 @@ use Rattle.agxx_base.specs.declared.kind.Mode.{Mode}
 use Rattle.agxx_base.specs.declared.place.Place.{Place}
 use Rattle.agxx_base.specs.declared.rule.Rule.{Rule}
 use Rattle.agxx_base.specs.declared.rule.Rule.TheVariants.{L1, L2}
+use Rattle.cxx_lex.specs.declared.strings.StringFault.TheVariants.{Unclosed, BadByte}
 use Rattle.cxx_lex.specs.declared.tok.Tok.{Tok}
 use Rattle.cxx_lex.specs.declared.tok.TokKind.{TokKind}
 use Rattle.cxx_lex.specs.declared.tok.TokKind.TheVariants as kind
@@ -52,9 +53,9 @@ pub data IsRefused (mode : Mode) (left : List ℕ) (rule : Rule) (front : List �
   -- a letter, digit or underscore behind a number
   behind_number : (token : TokKind) (rest : List ℕ) → left ≡ front ++ rest → IsLongest mode (Ok token) front rest → clashes token rest ≡ true → rule ≡ L1 → IsRefused mode left rule front
   -- a string that its line or file ends: the quote
-  open_string : (value rest : List ℕ) → left ≡ 34 ∷ (spelling value ++ rest) → list_all is_character value ≡ true → string_fault rest ≡ Some L2 → rule ≡ L2 → front ≡ [] → IsRefused mode left rule front
+  open_string : (value rest : List ℕ) → left ≡ 34 ∷ (spelling value ++ rest) → list_all is_character value ≡ true → string_fault rest ≡ Some Unclosed → rule ≡ L2 → front ≡ [] → IsRefused mode left rule front
   -- another byte or escape in a string
-  bad_string : (value rest : List ℕ) → left ≡ 34 ∷ (spelling value ++ rest) → list_all is_character value ≡ true → string_fault rest ≡ Some L1 → rule ≡ L1 → front ≡ 34 ∷ spelling value → IsRefused mode left rule front
+  bad_string : (value rest : List ℕ) → left ≡ 34 ∷ (spelling value ++ rest) → list_all is_character value ≡ true → string_fault rest ≡ Some BadByte → rule ≡ L1 → front ≡ 34 ∷ spelling value → IsRefused mode left rule front
   -- any other byte that begins nothing
   unknown : (b : ℕ) (rest : List ℕ) → left ≡ b ∷ rest → b ≢ 34 → is_blank b ≡ false → begins_comment left ≡ false
       → ((verdict : Result TokKind Rule) (text behind : List ℕ) → IsLexeme mode verdict text → left ≡ text ++ behind → ⊥) → rule ≡ L1 → front ≡ [] → IsRefused mode left rule front

@@ -40,7 +40,7 @@ fn bracketed_len(header: Header) -> usize
 
 /// The directive, where `before` bytes and `include` stand before the text.
 fn include(before: usize, text: &[u8]) -> Option<Lexeme>
-    requires { before + length text.now < 2 ^ 32 }
+    requires { before + length text.now < 2 ^ 33 }
     ensures value { result ≡ scan.include_lexeme before text.now }
     ensures within { IfSome result (λ l. l.len ≤ before + length text.now) }
 {
@@ -54,7 +54,7 @@ fn include(before: usize, text: &[u8]) -> Option<Lexeme>
 
 /// The directive, where `before` bytes and `pragma` stand before the text.
 fn pragma(before: usize, text: &[u8]) -> Option<Lexeme>
-    requires { before + length text.now < 2 ^ 32 }
+    requires { before + length text.now < 2 ^ 33 }
     ensures value { result ≡ scan.pragma_lexeme before text.now }
     ensures within { IfSome result (λ l. l.len ≤ before + length text.now) }
 {
@@ -71,7 +71,7 @@ fn pragma(before: usize, text: &[u8]) -> Option<Lexeme>
 /// The directive whose `#` stands before the text.
 #[tactic(auto, unfolding(crate::specs::DirectiveScan::directive_lexeme))]
 pub fn directive(text: &[u8]) -> Option<Lexeme>
-    requires { length text.now < 2 ^ 31 }
+    requires { length text.now < 2 ^ 32 }
     ensures value { result ≡ scan.directive_lexeme text.now }
     ensures within { IfSome result (λ l. l.len ≤ 1 + length text.now) }
 {

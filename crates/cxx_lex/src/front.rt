@@ -9,7 +9,7 @@ use crate::bytes::{Class, is_blank, is_digit, is_letter, is_part, run_len};
 use crate::directives::directive;
 use crate::numbers::number;
 use crate::signs::sign;
-use crate::strings::{body_len, string, string_fault};
+use crate::strings::{StringFault, body_len, string, string_fault};
 use crate::tok::{Lexeme, TokKind};
 use crate::words::word;
 use agxx_base::{Mode, Rule};
@@ -27,7 +27,7 @@ pub enum Front {
 
 /// The longest member of the sets of tokens that stands here.
 fn lexeme(mode: Mode, text: &[u8]) -> Option<Lexeme>
-    requires { length text.now < 2 ^ 31 }
+    requires { length text.now < 2 ^ 32 }
     ensures value { result ≡ scan.lexeme mode text.now }
     ensures within { IfSome result (λ l. l.len ≤ length text.now) }
 {
@@ -96,8 +96,8 @@ fn nothing(text: &[u8]) -> Front
     };
     let len = body_len(rest);
     match string_fault(&rest[len..]) {
-        Some(Rule::L1) => Front::Refused(Rule::L1, len + 1),
-        Some(rule) => Front::Refused(rule, 0),
+        Some(StringFault::Unclosed) => Front::Refused(Rule::L2, 0),
+        Some(StringFault::BadByte) => Front::Refused(Rule::L1, len + 1),
         None => Front::Refused(Rule::L1, 0),
     }
 }
@@ -116,7 +116,7 @@ fn clashes(token: TokKind, rest: &[u8]) -> bool
 #[tactic(auto, unfolding(crate::specs::Scan::front_of))]
 pub fn front_of(mode: Mode, text: &[u8]) -> Front
     requires some { 0 < length text.now }
-    requires short { length text.now < 2 ^ 31 }
+    requires short { length text.now < 2 ^ 32 }
     ensures value { result ≡ scan.front_of mode text.now }
     ensures within { scan.IsWithin result (length text.now) }
 {

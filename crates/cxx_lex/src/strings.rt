@@ -6,7 +6,6 @@ ghost use Rattle.cxx_lex.specs.Strings as strings;
 
 use crate::bytes::{begins_with, is_escape, is_plain};
 use crate::tok::{Lexeme, TokKind};
-use agxx_base::Rule;
 
 /// How many bytes of plain bytes and escapes there are behind a quote.
 pub fn body_len(text: &[u8]) -> usize
@@ -41,14 +40,23 @@ pub fn string(text: &[u8]) -> Option<Lexeme>
     })
 }
 
-/// The rule that a string violates which goes on so, if any.
-pub fn string_fault(text: &[u8]) -> Option<Rule>
+/// What is wrong with a string.
+#[derive(Clone, Copy, Debug, PartialEq, Eq)]
+pub enum StringFault {
+    /// Its line or its file ends, maybe behind a backslash.
+    Unclosed,
+    /// A byte or an escape that no string has.
+    BadByte,
+}
+
+/// What is wrong with a string that goes on so, if anything.
+pub fn string_fault(text: &[u8]) -> Option<StringFault>
     ensures { result ≡ strings.string_fault text.now }
 {
     match text {
-        [] | [b'\n', ..] | [b'\\'] | [b'\\', b'\n', ..] => Some(Rule::L2),
+        [] | [b'\n', ..] | [b'\\'] | [b'\\', b'\n', ..] => Some(StringFault::Unclosed),
         [b'"', ..] => None,
-        [b'\\', c, ..] => if is_escape(*c) { None } else { Some(Rule::L1) },
-        [b, ..] => if is_plain(*b) { None } else { Some(Rule::L1) },
+        [b'\\', c, ..] => if is_escape(*c) { None } else { Some(StringFault::BadByte) },
+        [b, ..] => if is_plain(*b) { None } else { Some(StringFault::BadByte) },
     }
 }

@@ -1,5 +1,4 @@
 use Rattle.cxx_lex.proofs.StringCut.{reads_quoted}
-use Rattle.cxx_lex.proofs.Cut.{longest-found}
 use Rattle.cxx_lex.proofs.laws.literals_are_read.Goals as goal
 
 pub returns : goal.returns
