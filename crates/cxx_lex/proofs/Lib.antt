@@ -11,3 +11,4 @@ pub mod Cut
 pub mod Comments
 pub mod Fronts
 pub mod Readings
+pub mod Stepping

@@ -1,5 +1,5 @@
 -- The lexing of whole texts.
-use Rattle.std.proofs.Common.{◌≡◌, ◌≢◌, ℕ, zero, suc, ◌≤◌, ◌<◌, ◌+◌, ◌^◌, List, [], ◌∷◌, ◌++◌, take, drop, length, length-append, append_assoc, append-nil, fold, Option, Some, None, ◌⊎◌, inl, inr, refl, sym, ap, ◌∙◌, subst, arith}
+use Rattle.std.proofs.Common.{◌≡◌, ◌≢◌, ℕ, zero, suc, ◌≤◌, ◌<◌, ◌+◌, List, [], ◌∷◌, ◌++◌, take, drop, length, length-append, append_assoc, append-nil, fold, Option, Some, None, ◌⊎◌, inl, inr, refl, sym, ap, ◌∙◌, subst, arith}
 use Rattle.std.proofs.lemmas.List.{take-append-drop}
 use Rattle.std.proofs.Math.Seq.{take-append_seam, drop-append_seam}
 use Rattle.std.proofs.lemmas.List.Sums.{fold-append}
@@ -14,7 +14,6 @@ use Rattle.cxx_lex.specs.Place.{start_of, next_place, place_after}
 use Rattle.cxx_lex.specs.Tokens.{Token, IsGap, IsTokenAt, IsRefused, Reads, arrives, past_gap, past_token, HasTokens, RefusedFrom, RefusedAt}
 use Rattle.cxx_lex.specs.Scan.{front_of}
 use Rattle.cxx_lex.specs.Lexed.{Lexed, tokens, refused, before, by_front, lexed_from, lexed}
-use Rattle.cxx_lex.specs.Left.{Left}
 use Rattle.cxx_lex.specs.Laws.{HasOneReading, HasOneRefusal, IsNeverBoth, IsAlwaysOne, TellsTokens, TellsRefusals}
 use Rattle.cxx_lex.proofs.Fronts.{IsFront, front-is, some-gap, gap-front, token-front, some-token, refused-front}
 
@@ -174,14 +173,3 @@ reads-on mode at text ts mid rest us end left (past_gap a t gap more vs last ove
     past_gap a t gap more (vs ++ us) end left e g (reads-on mode (place_after a gap) more vs last over us end left r s)
 reads-on mode at text ts mid rest us end left (past_token a t more tok vs last over e p i r) s =
     past_token a t more tok (vs ++ us) end left e p i (reads-on mode (place_after a tok.text) more vs last over us end left r s)
-
--- what a lexer knows behind blanks and comments
-pub record IsBehindGaps (mode : Mode) (from : Place) (text : List ℕ) (at : Place) (left : List ℕ) : Type 0 where
-  pub reads : Reads mode from text [] at left
-  pub line : at.line + length left < 2 ^ 32
-  pub column : at.column + length left < 2 ^ 32
-
--- what a lexer has read so far
-pub record IsReading (mode : Mode) (from : Place) (text : List ℕ) (ts : List Token) (left : Left) : Type 0 where
-  pub mode_is : left.mode ≡ mode
-  pub reads : Reads mode from text ts left.at left.text

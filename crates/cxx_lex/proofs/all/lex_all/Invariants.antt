@@ -1,8 +1,7 @@
 use Rattle.std.proofs.Common.{length}
 use Rattle.cxx_lex.specs.Place.{start_of}
 use Rattle.cxx_lex.specs.TokList.{tokens_of}
-use Rattle.cxx_lex.specs.Tokens.{Reads}
-use Rattle.cxx_lex.proofs.Readings.{IsReading}
+use Rattle.cxx_lex.proofs.Stepping.{IsReading}
 use Rattle.cxx_lex.proofs.all.lex_all.Given as goal
 
 abbrev pub invariant-steps : goal.invariant-steps
