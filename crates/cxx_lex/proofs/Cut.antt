@@ -142,7 +142,7 @@ longest-found mode v text rest i = go (lexeme mode (text ++ rest)) (lexeme-found
     go None f = absurd (f v text rest i.lexeme refl)
     go (Some l) f =
         let n : l.len ≡ length text =
-                omega (arith, f.longest v text rest i.lexeme refl, i.longest l.kind (take l.len (text ++ rest)) (drop l.len (text ++ rest)) f.member (sym (take-append-drop l.len (text ++ rest))), length-take-le l.len (text ++ rest) f.within) in
+        omega (arith, f.longest v text rest i.lexeme refl, i.longest l.kind (take l.len (text ++ rest)) (drop l.len (text ++ rest)) f.member (sym (take-append-drop l.len (text ++ rest))), length-take-le l.len (text ++ rest) f.within) in
         let t : take l.len (text ++ rest) ≡ text = ap (λ k. take k (text ++ rest)) n ∙ take-append_seam text rest in
         let k : l.kind ≡ v = verdict-unique mode l.kind v text (subst (IsLexeme mode l.kind) t f.member) i.lexeme in
         ap (λ q. Some (record { kind = q; len = l.len })) k ∙ ap (λ q. Some (record { kind = v; len = q })) n

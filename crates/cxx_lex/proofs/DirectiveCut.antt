@@ -55,18 +55,18 @@ directive-exact token front behind text (include gap other h a b f k) e =
     let whole : 35 ∷ text ≡ 35 ∷ ((gap ++ (codes "include" ++ (other ++ bracketed h))) ++ behind) = e ∙ ap (λ z. z ++ behind) f in
     let inner : text ≡ (gap ++ (codes "include" ++ (other ++ bracketed h))) ++ behind = cc in
     let rest : text ≡ gap ++ (codes "include" ++ (other ++ (bracketed h ++ behind))) =
-            inner ∙ append_assoc gap (codes "include" ++ (other ++ bracketed h)) behind ∙ ap (λ z. gap ++ (codes "include" ++ z)) (append_assoc other (bracketed h) behind) in
+    inner ∙ append_assoc gap (codes "include" ++ (other ++ bracketed h)) behind ∙ ap (λ z. gap ++ (codes "include" ++ z)) (append_assoc other (bracketed h) behind) in
     let m : length gap + 8 + length other + length (bracketed h) ≡ length front =
-            omega (arith, ap length f, length-append gap (codes "include" ++ (other ++ bracketed h)), length-append other (bracketed h)) in
+    omega (arith, ap length f, length-append gap (codes "include" ++ (other ++ bracketed h)), length-append other (bracketed h)) in
     ap directive_lexeme rest ∙ after-hash gap (codes "include" ++ (other ++ (bracketed h ++ behind))) a refl ∙ include-found (length gap + 8) other behind h b
     ∙ ap (λ n. Some (record { kind = Ok (kind.Include h); len = n })) m ∙ ap (λ t. Some (record { kind = Ok t; len = length front })) (sym k)
 directive-exact token front behind text (pragma gap other a b n f k) e =
     let whole : 35 ∷ text ≡ 35 ∷ ((gap ++ (codes "pragma" ++ (other ++ codes "once"))) ++ behind) = e ∙ ap (λ z. z ++ behind) f in
     let inner : text ≡ (gap ++ (codes "pragma" ++ (other ++ codes "once"))) ++ behind = cc in
     let rest : text ≡ gap ++ (codes "pragma" ++ (other ++ (codes "once" ++ behind))) =
-            inner ∙ append_assoc gap (codes "pragma" ++ (other ++ codes "once")) behind ∙ ap (λ z. gap ++ (codes "pragma" ++ z)) (append_assoc other (codes "once") behind) in
+    inner ∙ append_assoc gap (codes "pragma" ++ (other ++ codes "once")) behind ∙ ap (λ z. gap ++ (codes "pragma" ++ z)) (append_assoc other (codes "once") behind) in
     let m : length gap + 7 + length other + 4 ≡ length front =
-            omega (arith, ap length f, length-append gap (codes "pragma" ++ (other ++ codes "once")), length-append other (codes "once")) in
+    omega (arith, ap length f, length-append gap (codes "pragma" ++ (other ++ codes "once")), length-append other (codes "once")) in
     ap directive_lexeme rest ∙ after-hash gap (codes "pragma" ++ (other ++ (codes "once" ++ behind))) a refl ∙ pragma-found (length gap + 7) other behind b n
     ∙ ap (λ z. Some (record { kind = Ok kind.PragmaOnce; len = z })) m ∙ ap (λ t. Some (record { kind = Ok t; len = length front })) (sym k)
 
@@ -116,9 +116,9 @@ include-cut text rest l p e = go (header_at (drop (run is_space rest) rest)) ref
         let behind = drop (length (bracketed h)) (drop (run is_space rest) rest) in
         let inner : rest ≡ other ++ (bracketed h ++ behind) = split rest (bracketed h) (header-is headers (drop (run is_space rest) rest) h q) in
         let whole : 35 ∷ text ≡ (35 ∷ (gap ++ (codes "include" ++ (other ++ bracketed h)))) ++ behind =
-                ap (λ z. 35 ∷ z) (p ∙ ap (λ z. gap ++ (codes "include" ++ z)) (inner ∙ sym (append_assoc other (bracketed h) behind)) ∙ sym (append_assoc gap (codes "include" ++ (other ++ bracketed h)) behind)) in
+        ap (λ z. 35 ∷ z) (p ∙ ap (λ z. gap ++ (codes "include" ++ z)) (inner ∙ sym (append_assoc other (bracketed h) behind)) ∙ sym (append_assoc gap (codes "include" ++ (other ++ bracketed h)) behind)) in
         let m : run is_space text + 8 + run is_space rest + length (bracketed h) ≡ length (35 ∷ (gap ++ (codes "include" ++ (other ++ bracketed h)))) =
-                omega (arith, run-len text, run-len rest, length-append gap (codes "include" ++ (other ++ bracketed h)), length-append other (bracketed h)) in
+        omega (arith, run-len text, run-len rest, length-append gap (codes "include" ++ (other ++ bracketed h)), length-append other (bracketed h)) in
         let s : record { kind = Ok (kind.Include h); len = run is_space text + 8 + run is_space rest + length (bracketed h) } ≡ l = cc in
         subst (IsDirectiveCut text) s (record {
           token = kind.Include h;
@@ -143,9 +143,9 @@ pragma-cut text rest l p e = go (run is_space rest == 0) refl (stands (codes "on
         let behind = drop 4 (drop (run is_space rest) rest) in
         let inner : rest ≡ other ++ (codes "once" ++ behind) = split rest (codes "once") q in
         let whole : 35 ∷ text ≡ (35 ∷ (gap ++ (codes "pragma" ++ (other ++ codes "once")))) ++ behind =
-                ap (λ z. 35 ∷ z) (p ∙ ap (λ z. gap ++ (codes "pragma" ++ z)) (inner ∙ sym (append_assoc other (codes "once") behind)) ∙ sym (append_assoc gap (codes "pragma" ++ (other ++ codes "once")) behind)) in
+        ap (λ z. 35 ∷ z) (p ∙ ap (λ z. gap ++ (codes "pragma" ++ z)) (inner ∙ sym (append_assoc other (codes "once") behind)) ∙ sym (append_assoc gap (codes "pragma" ++ (other ++ codes "once")) behind)) in
         let m : run is_space text + 7 + run is_space rest + 4 ≡ length (35 ∷ (gap ++ (codes "pragma" ++ (other ++ codes "once")))) =
-                omega (arith, run-len text, run-len rest, length-append gap (codes "pragma" ++ (other ++ codes "once")), length-append other (codes "once")) in
+        omega (arith, run-len text, run-len rest, length-append gap (codes "pragma" ++ (other ++ codes "once")), length-append other (codes "once")) in
         let s : record { kind = Ok kind.PragmaOnce; len = run is_space text + 7 + run is_space rest + 4 } ≡ l = cc in
         let n : other ≢ [] = λ h. absurd (false≢true (sym u ∙ eq-eqb (run is_space rest) 0 (sym (run-len rest) ∙ ap length h))) in
         subst (IsDirectiveCut text) s (record {

@@ -49,6 +49,6 @@ pub in_base-large : (radix v d i : ℕ) (digits : List ℕ) → 0 < radix → i 
     → fold (λ n b. n * radix + digit_value b) v (drop i digits) ≡ in_base radix digits → None ≡ held (in_base radix digits)
 in_base-large radix v d i digits h l g n e =
     let whole : fold (λ n b. n * radix + digit_value b) (v * radix + digit_value d) (drop (suc i) digits) ≡ in_base radix digits =
-            ap (λ x. fold (λ n b. n * radix + digit_value b) (v * radix + digit_value x) (drop (suc i) digits)) (sym g) ∙ ap (fold (λ n b. n * radix + digit_value b) v) (sym (drop-cons digits i 0 l)) ∙ e in
+    ap (λ x. fold (λ n b. n * radix + digit_value b) (v * radix + digit_value x) (drop (suc i) digits)) (sym g) ∙ ap (fold (λ n b. n * radix + digit_value b) v) (sym (drop-cons digits i 0 l)) ∙ e in
     let least : v * radix + digit_value d ≤ in_base radix digits = subst (λ x. v * radix + digit_value d ≤ x) whole (in_base-grows radix (v * radix + digit_value d) (drop (suc i) digits) h) in
     held-large _ (omega (arith, least, held-none _ n))

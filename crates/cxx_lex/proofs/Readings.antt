@@ -53,8 +53,8 @@ token-lexed mode at token text rest i = go text i (some-token mode token text re
         (ap (λ f. by_front at (b ∷ (bs ++ rest)) f (λ n. lexed_from mode (next_place at b) n (bs ++ rest))) (token-front mode token (b ∷ bs) rest (subst (λ z. IsTokenAt mode token z rest) e i))
         ∙ ap (λ z. before (record { kind = token; text = b ∷ z; at = at } ∷ []) (lexed_from mode (next_place at b) (length bs) (bs ++ rest))) (take-append_seam bs rest)
         ∙ ap (before (record { kind = token; text = b ∷ bs; at = at } ∷ [])) (skip mode (bs ++ rest) (length bs) (next_place at b)
-          ∙ ap (λ z. lexed_from mode (place_after (next_place at b) z) 0 (drop (length bs) (bs ++ rest))) (take-append_seam bs rest)
-          ∙ ap (lexed_from mode (place_after (next_place at b) bs) 0) (drop-append_seam bs rest)))
+        ∙ ap (λ z. lexed_from mode (place_after (next_place at b) z) 0 (drop (length bs) (bs ++ rest))) (take-append_seam bs rest)
+        ∙ ap (lexed_from mode (place_after (next_place at b) bs) 0) (drop-append_seam bs rest)))
 
 -- what is read stands before what is left
 pub reads-lexed : (mode : Mode) (at : Place) (text : List ℕ) (ts : List Token) (end : Place) (left : List ℕ) → Reads mode at text ts end left → lexed_from mode at 0 text ≡ before ts (lexed_from mode end 0 left)

@@ -131,7 +131,13 @@ end-behind mode file text ts end h =
     p.2 ∙ ap (place_after (start_of file)) (sym (append-nil p.0) ∙ sym p.1)
 
 pub reading-refused : (mode : Mode) (file : ℕ) (text : List ℕ) (items : List Tok) (left : Left) (refusal : Refusal) → IsReading mode (start_of file) text (tokens_of items) left → RefusesAt left refusal → RefusedAt mode file text refusal
-reading-refused mode file text items left refusal r (at, rest, passed, g, i, p) =
-    (tokens_of items, at, rest, passed, subst (λ z. Reads mode (start_of file) text z at rest) (append-nil (tokens_of items))
+reading-refused mode file text items left refusal r (at, rest, passed, g, i, p) = (
+  tokens_of items,
+  at,
+  rest,
+  passed,
+  subst (λ z. Reads mode (start_of file) text z at rest) (append-nil (tokens_of items))
       (reads-on mode (start_of file) text (tokens_of items) left.at left.text [] at rest r.reads (subst (λ z. Reads z left.at left.text [] at rest) r.mode_is g)),
-      subst (λ z. IsRefused z rest refusal.rule passed) r.mode_is i, p)
+  subst (λ z. IsRefused z rest refusal.rule passed) r.mode_is i,
+  p,
+)

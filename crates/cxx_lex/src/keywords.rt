@@ -6,318 +6,95 @@ ghost use Rattle.cxx_lex.specs.KeywordScan.{keyword_among};
 
 use agxx_base::{Keyword, NumKind};
 
+/// The keyword that a word is among those of its length: first those of the grammar, then the reserved ones.
+macro_rules! keyword_among {
+    ($word:expr, { $($text:literal => $keyword:expr),* }, [$($reserved:literal),*]) => {{
+        $(if $word == $text.as_slice() {
+            return Some($keyword);
+        })*
+        $(if $word == $reserved.as_slice() {
+            return Some(Keyword::Reserved);
+        })*
+        None
+    }};
+}
+
 fn of_two(word: &[u8]) -> Option<Keyword>
     ensures { result ≡ keyword_among 2 word.now }
 {
-    if word == b"if".as_slice() {
-        Some(Keyword::If)
-    } else if word == b"do".as_slice() {
-        Some(Keyword::Reserved)
-    } else if word == b"or".as_slice() {
-        Some(Keyword::Reserved)
-    } else {
-        None
-    }
+    keyword_among!(word, { b"if" => Keyword::If }, [b"do", b"or"])
 }
 
 fn of_three(word: &[u8]) -> Option<Keyword>
     ensures { result ≡ keyword_among 3 word.now }
 {
-    if word == b"int".as_slice() {
-        Some(Keyword::Int)
-    } else if word == b"new".as_slice() {
-        Some(Keyword::New)
-    } else if word == b"for".as_slice() {
-        Some(Keyword::For)
-    } else if word == b"tjp".as_slice() {
-        Some(Keyword::Tjp)
-    } else if word == b"asm".as_slice() {
-        Some(Keyword::Reserved)
-    } else if word == b"try".as_slice() {
-        Some(Keyword::Reserved)
-    } else if word == b"and".as_slice() {
-        Some(Keyword::Reserved)
-    } else if word == b"not".as_slice() {
-        Some(Keyword::Reserved)
-    } else if word == b"xor".as_slice() {
-        Some(Keyword::Reserved)
-    } else {
-        None
-    }
+    keyword_among!(word, { b"int" => Keyword::Int, b"new" => Keyword::New, b"for" => Keyword::For, b"tjp" => Keyword::Tjp }, [b"asm", b"try", b"and", b"not", b"xor"])
 }
 
 fn of_four(word: &[u8]) -> Option<Keyword>
     ensures { result ≡ keyword_among 4 word.now }
 {
-    if word == b"void".as_slice() {
-        Some(Keyword::Void)
-    } else if word == b"true".as_slice() {
-        Some(Keyword::True)
-    } else if word == b"this".as_slice() {
-        Some(Keyword::This)
-    } else if word == b"else".as_slice() {
-        Some(Keyword::Else)
-    } else if word == b"bool".as_slice() {
-        Some(Keyword::Number(NumKind::Bool))
-    } else if word == b"auto".as_slice() {
-        Some(Keyword::Reserved)
-    } else if word == b"case".as_slice() {
-        Some(Keyword::Reserved)
-    } else if word == b"char".as_slice() {
-        Some(Keyword::Reserved)
-    } else if word == b"enum".as_slice() {
-        Some(Keyword::Reserved)
-    } else if word == b"goto".as_slice() {
-        Some(Keyword::Reserved)
-    } else if word == b"long".as_slice() {
-        Some(Keyword::Reserved)
-    } else {
-        None
-    }
+    keyword_among!(word, { b"void" => Keyword::Void, b"true" => Keyword::True, b"this" => Keyword::This, b"else" => Keyword::Else, b"bool" => Keyword::Number(NumKind::Bool) }, [b"auto", b"case", b"char", b"enum", b"goto", b"long"])
 }
 
 fn of_five(word: &[u8]) -> Option<Keyword>
     ensures { result ≡ keyword_among 5 word.now }
 {
-    if word == b"class".as_slice() {
-        Some(Keyword::Class)
-    } else if word == b"false".as_slice() {
-        Some(Keyword::False)
-    } else if word == b"while".as_slice() {
-        Some(Keyword::While)
-    } else if word == b"slice".as_slice() {
-        Some(Keyword::Slice)
-    } else if word == b"break".as_slice() {
-        Some(Keyword::Reserved)
-    } else if word == b"catch".as_slice() {
-        Some(Keyword::Reserved)
-    } else if word == b"const".as_slice() {
-        Some(Keyword::Reserved)
-    } else if word == b"float".as_slice() {
-        Some(Keyword::Reserved)
-    } else if word == b"short".as_slice() {
-        Some(Keyword::Reserved)
-    } else if word == b"throw".as_slice() {
-        Some(Keyword::Reserved)
-    } else if word == b"union".as_slice() {
-        Some(Keyword::Reserved)
-    } else if word == b"using".as_slice() {
-        Some(Keyword::Reserved)
-    } else if word == b"bitor".as_slice() {
-        Some(Keyword::Reserved)
-    } else if word == b"compl".as_slice() {
-        Some(Keyword::Reserved)
-    } else if word == b"or_eq".as_slice() {
-        Some(Keyword::Reserved)
-    } else {
-        None
-    }
+    keyword_among!(word, { b"class" => Keyword::Class, b"false" => Keyword::False, b"while" => Keyword::While, b"slice" => Keyword::Slice }, [b"break", b"catch", b"const", b"float", b"short", b"throw", b"union", b"using", b"bitor", b"compl", b"or_eq"])
 }
 
 fn of_six(word: &[u8]) -> Option<Keyword>
     ensures { result ≡ keyword_among 6 word.now }
 {
-    if word == b"struct".as_slice() {
-        Some(Keyword::Struct)
-    } else if word == b"public".as_slice() {
-        Some(Keyword::Public)
-    } else if word == b"delete".as_slice() {
-        Some(Keyword::Delete)
-    } else if word == b"return".as_slice() {
-        Some(Keyword::Return)
-    } else if word == b"aspect".as_slice() {
-        Some(Keyword::Aspect)
-    } else if word == b"advice".as_slice() {
-        Some(Keyword::Advice)
-    } else if word == b"int8_t".as_slice() {
-        Some(Keyword::Number(NumKind::I8))
-    } else if word == b"double".as_slice() {
-        Some(Keyword::Reserved)
-    } else if word == b"export".as_slice() {
-        Some(Keyword::Reserved)
-    } else if word == b"extern".as_slice() {
-        Some(Keyword::Reserved)
-    } else if word == b"friend".as_slice() {
-        Some(Keyword::Reserved)
-    } else if word == b"inline".as_slice() {
-        Some(Keyword::Reserved)
-    } else if word == b"signed".as_slice() {
-        Some(Keyword::Reserved)
-    } else if word == b"sizeof".as_slice() {
-        Some(Keyword::Reserved)
-    } else if word == b"static".as_slice() {
-        Some(Keyword::Reserved)
-    } else if word == b"switch".as_slice() {
-        Some(Keyword::Reserved)
-    } else if word == b"typeid".as_slice() {
-        Some(Keyword::Reserved)
-    } else if word == b"and_eq".as_slice() {
-        Some(Keyword::Reserved)
-    } else if word == b"bitand".as_slice() {
-        Some(Keyword::Reserved)
-    } else if word == b"not_eq".as_slice() {
-        Some(Keyword::Reserved)
-    } else if word == b"xor_eq".as_slice() {
-        Some(Keyword::Reserved)
-    } else {
-        None
-    }
+    keyword_among!(word, { b"struct" => Keyword::Struct, b"public" => Keyword::Public, b"delete" => Keyword::Delete, b"return" => Keyword::Return, b"aspect" => Keyword::Aspect, b"advice" => Keyword::Advice, b"int8_t" => Keyword::Number(NumKind::I8) }, [b"double", b"export", b"extern", b"friend", b"inline", b"signed", b"sizeof", b"static", b"switch", b"typeid", b"and_eq", b"bitand", b"not_eq", b"xor_eq"])
 }
 
 fn of_seven(word: &[u8]) -> Option<Keyword>
     ensures { result ≡ keyword_among 7 word.now }
 {
-    if word == b"private".as_slice() {
-        Some(Keyword::Private)
-    } else if word == b"virtual".as_slice() {
-        Some(Keyword::Virtual)
-    } else if word == b"nullptr".as_slice() {
-        Some(Keyword::Nullptr)
-    } else if word == b"uint8_t".as_slice() {
-        Some(Keyword::Number(NumKind::U8))
-    } else if word == b"int16_t".as_slice() {
-        Some(Keyword::Number(NumKind::I16))
-    } else if word == b"int32_t".as_slice() {
-        Some(Keyword::Number(NumKind::I32))
-    } else if word == b"int64_t".as_slice() {
-        Some(Keyword::Number(NumKind::I64))
-    } else if word == b"alignas".as_slice() {
-        Some(Keyword::Reserved)
-    } else if word == b"alignof".as_slice() {
-        Some(Keyword::Reserved)
-    } else if word == b"char8_t".as_slice() {
-        Some(Keyword::Reserved)
-    } else if word == b"concept".as_slice() {
-        Some(Keyword::Reserved)
-    } else if word == b"default".as_slice() {
-        Some(Keyword::Reserved)
-    } else if word == b"mutable".as_slice() {
-        Some(Keyword::Reserved)
-    } else if word == b"typedef".as_slice() {
-        Some(Keyword::Reserved)
-    } else if word == b"wchar_t".as_slice() {
-        Some(Keyword::Reserved)
-    } else {
-        None
-    }
+    keyword_among!(word, { b"private" => Keyword::Private, b"virtual" => Keyword::Virtual, b"nullptr" => Keyword::Nullptr, b"uint8_t" => Keyword::Number(NumKind::U8), b"int16_t" => Keyword::Number(NumKind::I16), b"int32_t" => Keyword::Number(NumKind::I32), b"int64_t" => Keyword::Number(NumKind::I64) }, [b"alignas", b"alignof", b"char8_t", b"concept", b"default", b"mutable", b"typedef", b"wchar_t"])
 }
 
 fn of_eight(word: &[u8]) -> Option<Keyword>
     ensures { result ≡ keyword_among 8 word.now }
 {
-    if word == b"unsigned".as_slice() {
-        Some(Keyword::Unsigned)
-    } else if word == b"pointcut".as_slice() {
-        Some(Keyword::Pointcut)
-    } else if word == b"uint16_t".as_slice() {
-        Some(Keyword::Number(NumKind::U16))
-    } else if word == b"uint32_t".as_slice() {
-        Some(Keyword::Number(NumKind::U32))
-    } else if word == b"uint64_t".as_slice() {
-        Some(Keyword::Number(NumKind::U64))
-    } else if word == b"char16_t".as_slice() {
-        Some(Keyword::Reserved)
-    } else if word == b"char32_t".as_slice() {
-        Some(Keyword::Reserved)
-    } else if word == b"continue".as_slice() {
-        Some(Keyword::Reserved)
-    } else if word == b"co_await".as_slice() {
-        Some(Keyword::Reserved)
-    } else if word == b"co_yield".as_slice() {
-        Some(Keyword::Reserved)
-    } else if word == b"decltype".as_slice() {
-        Some(Keyword::Reserved)
-    } else if word == b"explicit".as_slice() {
-        Some(Keyword::Reserved)
-    } else if word == b"noexcept".as_slice() {
-        Some(Keyword::Reserved)
-    } else if word == b"operator".as_slice() {
-        Some(Keyword::Reserved)
-    } else if word == b"register".as_slice() {
-        Some(Keyword::Reserved)
-    } else if word == b"requires".as_slice() {
-        Some(Keyword::Reserved)
-    } else if word == b"template".as_slice() {
-        Some(Keyword::Reserved)
-    } else if word == b"typename".as_slice() {
-        Some(Keyword::Reserved)
-    } else if word == b"volatile".as_slice() {
-        Some(Keyword::Reserved)
-    } else {
-        None
-    }
+    keyword_among!(word, { b"unsigned" => Keyword::Unsigned, b"pointcut" => Keyword::Pointcut, b"uint16_t" => Keyword::Number(NumKind::U16), b"uint32_t" => Keyword::Number(NumKind::U32), b"uint64_t" => Keyword::Number(NumKind::U64) }, [b"char16_t", b"char32_t", b"continue", b"co_await", b"co_yield", b"decltype", b"explicit", b"noexcept", b"operator", b"register", b"requires", b"template", b"typename", b"volatile"])
 }
 
 fn of_nine(word: &[u8]) -> Option<Keyword>
     ensures { result ≡ keyword_among 9 word.now }
 {
-    if word == b"protected".as_slice() {
-        Some(Keyword::Protected)
-    } else if word == b"consteval".as_slice() {
-        Some(Keyword::Reserved)
-    } else if word == b"constexpr".as_slice() {
-        Some(Keyword::Reserved)
-    } else if word == b"constinit".as_slice() {
-        Some(Keyword::Reserved)
-    } else if word == b"co_return".as_slice() {
-        Some(Keyword::Reserved)
-    } else if word == b"namespace".as_slice() {
-        Some(Keyword::Reserved)
-    } else {
-        None
-    }
+    keyword_among!(word, { b"protected" => Keyword::Protected }, [b"consteval", b"constexpr", b"constinit", b"co_return", b"namespace"])
 }
 
 fn of_ten(word: &[u8]) -> Option<Keyword>
     ensures { result ≡ keyword_among 10 word.now }
 {
-    if word == b"const_cast".as_slice() {
-        Some(Keyword::Reserved)
-    } else {
-        None
-    }
+    keyword_among!(word, {}, [b"const_cast"])
 }
 
 fn of_eleven(word: &[u8]) -> Option<Keyword>
     ensures { result ≡ keyword_among 11 word.now }
 {
-    if word == b"static_cast".as_slice() {
-        Some(Keyword::Reserved)
-    } else {
-        None
-    }
+    keyword_among!(word, {}, [b"static_cast"])
 }
 
 fn of_twelve(word: &[u8]) -> Option<Keyword>
     ensures { result ≡ keyword_among 12 word.now }
 {
-    if word == b"dynamic_cast".as_slice() {
-        Some(Keyword::Reserved)
-    } else if word == b"thread_local".as_slice() {
-        Some(Keyword::Reserved)
-    } else {
-        None
-    }
+    keyword_among!(word, {}, [b"dynamic_cast", b"thread_local"])
 }
 
 fn of_thirteen(word: &[u8]) -> Option<Keyword>
     ensures { result ≡ keyword_among 13 word.now }
 {
-    if word == b"static_assert".as_slice() {
-        Some(Keyword::Reserved)
-    } else {
-        None
-    }
+    keyword_among!(word, {}, [b"static_assert"])
 }
 
 fn of_sixteen(word: &[u8]) -> Option<Keyword>
     ensures { result ≡ keyword_among 16 word.now }
 {
-    if word == b"reinterpret_cast".as_slice() {
-        Some(Keyword::Reserved)
-    } else {
-        None
-    }
+    keyword_among!(word, {}, [b"reinterpret_cast"])
 }
 
 /// The keyword that a word is.

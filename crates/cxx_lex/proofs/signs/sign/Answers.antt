@@ -17,6 +17,6 @@ sign_or-within n m s other answer h w e = subst (IsWithin m) (sym e) (go s)
 pub returns-in-len3-up-clause-within : goal.returns-in-len3-up-clause-within
 returns-in-len3-up-clause-within c =
     sign_or-within 3 (length c.args.text.now) _ _ c.sign_or-in-len3-up-3.result (omega arith)
-      (sign_or-within 2 (length c.args.text.now) _ _ c.sign_or-in-len3-up-2.result (omega arith)
-        (sign_or-within 1 (length c.args.text.now) _ None c.sign_or-in-len3-up.result (omega arith) tt c.sign_or-in-len3-up.ensures) c.sign_or-in-len3-up-2.ensures)
-      c.sign_or-in-len3-up-3.ensures
+    (sign_or-within 2 (length c.args.text.now) _ _ c.sign_or-in-len3-up-2.result (omega arith)
+    (sign_or-within 1 (length c.args.text.now) _ None c.sign_or-in-len3-up.result (omega arith) tt c.sign_or-in-len3-up.ensures) c.sign_or-in-len3-up-2.ensures)
+    c.sign_or-in-len3-up-3.ensures
