@@ -1,0 +1,14 @@
+pub mod Runs
+pub mod Tables
+pub mod NumberValues
+pub mod Closes
+pub mod StringCut
+pub mod SignCut
+pub mod NumberCut
+pub mod DirectiveCut
+pub mod Members
+pub mod Cut
+pub mod Comments
+pub mod Fronts
+pub mod Readings
+pub mod Stepping

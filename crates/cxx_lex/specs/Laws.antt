@@ -1,0 +1,30 @@
+-- That the tokens of a text are a definition.
+use Rattle.std.specs.Prelude.{◌≡◌, ◌↔◌, ◌⊎◌, ℕ, List}
+use Rattle.agxx_base.specs.declared.fault.Refusal.{Refusal}
+use Rattle.agxx_base.specs.declared.kind.Mode.{Mode}
+use Rattle.agxx_base.specs.declared.place.Place.{Place}
+use Rattle.cxx_lex.specs.Tokens.{Token, HasTokens, RefusedAt}
+use Rattle.cxx_lex.specs.Lexed.{lexed, tokens, refused}
+
+abbrev pub HasOneReading : Type 0
+HasOneReading = (mode : Mode) (file : ℕ) (text : List ℕ) (ts us : List Token) (end last : Place)
+    → HasTokens mode file text ts end → HasTokens mode file text us last → (ts ≡ us) × (end ≡ last)
+
+abbrev pub HasOneRefusal : Type 0
+HasOneRefusal = (mode : Mode) (file : ℕ) (text : List ℕ) (first second : Refusal)
+    → RefusedAt mode file text first → RefusedAt mode file text second → first ≡ second
+
+abbrev pub IsNeverBoth : Type 0
+IsNeverBoth = (mode : Mode) (file : ℕ) (text : List ℕ) (ts : List Token) (end : Place) (refusal : Refusal)
+    → HasTokens mode file text ts end → RefusedAt mode file text refusal → ⊥
+
+abbrev pub IsAlwaysOne : Type 0
+IsAlwaysOne = (mode : Mode) (file : ℕ) (text : List ℕ)
+    → ((ts : List Token) × (end : Place) × HasTokens mode file text ts end) ⊎ ((refusal : Refusal) × RefusedAt mode file text refusal)
+
+-- the function and the relation agree
+abbrev pub TellsTokens : Type 0
+TellsTokens = (mode : Mode) (file : ℕ) (text : List ℕ) (ts : List Token) (end : Place) → (lexed mode file text ≡ tokens ts end) ↔ HasTokens mode file text ts end
+
+abbrev pub TellsRefusals : Type 0
+TellsRefusals = (mode : Mode) (file : ℕ) (text : List ℕ) (refusal : Refusal) → (lexed mode file text ≡ refused refusal) ↔ RefusedAt mode file text refusal

@@ -1,0 +1,19 @@
+//! Laws of the definitions: the functions do nothing.
+
+ghost use Rattle.cxx_lex.specs.Laws.{HasOneReading, HasOneRefusal, IsNeverBoth, IsAlwaysOne, TellsTokens, TellsRefusals};
+ghost use Rattle.cxx_lex.specs.Strings.{ReadsQuoted};
+
+/// A text has one list of tokens and one end, or one refusal, and never both. `lexed` tells which.
+pub fn texts_are_lexed_in_one_way()
+    ensures tokens { HasOneReading }
+    ensures refusal { HasOneRefusal }
+    ensures never { IsNeverBoth }
+    ensures always { IsAlwaysOne }
+    ensures tells_tokens { TellsTokens }
+    ensures tells_refusals { TellsRefusals }
+{}
+
+/// `string_value` of a literal is what the literal was made of.
+pub fn literals_are_read()
+    ensures { ReadsQuoted }
+{}
