@@ -1,2 +1,5 @@
 pub mod FirstForm
 pub mod Reading
+pub mod Shown
+pub mod TreeOf
+pub mod Parsed

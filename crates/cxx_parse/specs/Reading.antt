@@ -12,7 +12,8 @@ use Rattle.cxx_parse.specs.declared.first_form.Operand.{Operand}
 use Rattle.cxx_parse.specs.declared.first_form.Operand.TheVariants as operand
 use Rattle.cxx_parse.specs.declared.first_form.Lexeme.{Lexeme}
 use Rattle.cxx_parse.specs.declared.first_form.Lexeme.TheVariants.{Plain, Quoted}
-use Rattle.cxx_parse.specs.FirstForm.{Statement, statements_before, closing, AllPrint}
+use Rattle.cxx_parse.specs.FirstForm.{Statement, statements_before, closing, AllPrint, IsFirstForm}
+use Rattle.cxx_lex.specs.Tokens.{Token}
 
 -- from within a statement: literals that are still added to the operand before, further operands, further statements
 pub record Rest : Type 0 where
@@ -119,8 +120,21 @@ abbrev pub StepMoves : Step → List Lexeme → List Lexeme → Type 0
 StepMoves (step.Statement os) old new = length new < length old
 StepMoves _ old new = Unit {0}
 
-abbrev pub IsSound : Type 0
-IsSound = (ws : List Lexeme) (sts : List Statement) → statements_in ws ≡ Some sts → (ws ≡ statements_before closing sts) × AllPrint sts
+-- ---- whole programs
 
-abbrev pub IsComplete : Type 0
-IsComplete = (sts : List Statement) → AllPrint sts → statements_in (statements_before closing sts) ≡ Some sts
+abbrev pub body_in : List Lexeme → Option (List Statement)
+body_in (Plain shape.OpenBrace ∷ ws) = statements_in ws
+body_in _ = None
+
+abbrev pub parentheses_in : List Lexeme → Option (List Statement)
+parentheses_in (Plain shape.OpenParen ∷ Plain shape.CloseParen ∷ ws) = body_in ws
+parentheses_in _ = None
+
+abbrev pub program_in : List Lexeme → Option (List Statement)
+program_in (Plain shape.Int ∷ Plain shape.Main ∷ ws) = parentheses_in ws
+program_in _ = None
+
+-- what the recognition of tokens answers
+abbrev pub Recognizes : List Token → Option (List Statement) → Type 0
+Recognizes tokens (Some sts) = IsFirstForm tokens sts
+Recognizes tokens None = (sts : List Statement) → IsFirstForm tokens sts → ⊥

@@ -1,7 +1,7 @@
 //! The first form of a program: a `main` that prints strings and sums of literals.
 
-ghost use Rattle.std.specs.Prelude.{◌≡◌, ◌≤◌, ◌<◌, [], ◌∷◌, length, IfOk, OnOk, OnErr, IfSome, MatchOption, MatchBool, Some, None, if◌then◌else◌, option_map};
-ghost use Rattle.cxx_parse.specs.Reading.{IsSound, IsComplete, statements_in, rest_in, with_terms, IsClean, Follows, first_term, Begins, Moves, Ends, StartMoves, Steps, StepMoves};
+ghost use Rattle.std.specs.Prelude.{◌≡◌, ◌≤◌, ◌<◌, [], ◌∷◌, length, IfOk, OnOk, OnErr, IfSome, MatchOption, MatchBool, Some, None, if◌then◌else◌, option_map, ◌^◌};
+ghost use Rattle.cxx_parse.specs.Reading.{statements_in, program_in, parentheses_in, body_in, rest_in, with_terms, IsClean, Follows, first_term, Begins, Moves, Ends, StartMoves, Steps, StepMoves};
 
 use agxx_base::{ListOf, Memory, Text};
 use std::alloc::Global;
@@ -79,7 +79,7 @@ fn copied(alloc: Global, text: &Text) -> Result<Operand, Memory>
 
 /// The lexemes that are left to read.
 #[derive(Drop)]
-struct Cursor<'t> {
+pub(crate) struct Cursor<'t> {
     left: &'t [Lexeme],
 }
 
@@ -93,6 +93,12 @@ impl<'t> Model for Cursor<'t> {
 }
 
 impl<'t> Cursor<'t> {
+    pub(crate) fn new(left: &'t [Lexeme]) -> Cursor<'t>
+        ensures { result ≡ left.now }
+    {
+        Cursor { left }
+    }
+
     /// Takes a `+` and the literal after it.
     fn term(&mut self) -> Option<u64>
         ensures value { result ≡ first_term self.old }
@@ -273,10 +279,65 @@ impl<'t> Cursor<'t> {
             }
         }
     }
-}
 
-/// The reading of tokens as a program of the first form gives exactly the statements that are spelled so.
-pub fn reading_is_exact()
-    ensures sound { IsSound }
-    ensures complete { IsComplete }
-{}
+    /// Takes `int main`.
+    fn int_main(&mut self) -> bool
+        ensures { program_in self.old ≡ (if result then parentheses_in self.new else None) }
+    {
+        match self.left {
+            [
+                Lexeme::Plain(Shape::Int),
+                Lexeme::Plain(Shape::Main),
+                left @ ..,
+            ] => {
+                self.left = left;
+                true
+            }
+            _ => false,
+        }
+    }
+
+    /// Takes a pair of parentheses.
+    fn parentheses(&mut self) -> bool
+        ensures { parentheses_in self.old ≡ (if result then body_in self.new else None) }
+    {
+        match self.left {
+            [
+                Lexeme::Plain(Shape::OpenParen),
+                Lexeme::Plain(Shape::CloseParen),
+                left @ ..,
+            ] => {
+                self.left = left;
+                true
+            }
+            _ => false,
+        }
+    }
+
+    /// Takes the brace that opens the body.
+    fn brace(&mut self) -> bool
+        ensures { body_in self.old ≡ (if result then statements_in self.new else None) }
+    {
+        match self.left {
+            [Lexeme::Plain(Shape::OpenBrace), left @ ..] => {
+                self.left = left;
+                true
+            }
+            _ => false,
+        }
+    }
+
+    /// Takes a whole program.
+    pub(crate) fn program(
+        &mut self,
+        alloc: Global,
+    ) -> Result<Option<ListOf<ListOf<Operand>>>, Memory>
+        ensures { IfOk result (λ found. found ≡ program_in self.old) }
+    {
+        if self.int_main() && self.parentheses() && self.brace() {
+            self.statements(alloc)
+        } else {
+            Ok(None)
+        }
+    }
+}

@@ -1,0 +1,50 @@
+-- The whole answer of the program, for words and files that are told.
+use Rattle.std.specs.Prelude.{◌≡◌, ◌≤◌, ◌<◌, ℕ, List, [], ◌∷◌, length, Option, Some, None}
+use Rattle.agxx_base.specs.Files.{Listing, file_named}
+use Rattle.agxx_base.specs.declared.fault.Refusal.{Refusal}
+use Rattle.agxx_base.specs.declared.kind.Mode.TheVariants.{Woven}
+use Rattle.agxx_base.specs.declared.place.Place.{Place}
+use Rattle.agxx_base.specs.declared.rule.Rule.{Rule}
+use Rattle.agxx_base.specs.declared.rule.Rule.TheVariants.{S1, U1}
+use Rattle.agxx_base.specs.declared.status.Status.TheVariants as status_of
+use Rattle.cxx_lex.specs.Tokens.{Token, HasTokens, RefusedAt}
+use Rattle.cxx_parse.specs.FirstForm.{Statement, IsFirstForm, printed}
+use Rattle.agxx_main.specs.declared.answer.Answer.{Answer}
+use Rattle.agxx_main.specs.Commands.{MeansExec, IsUsage}
+use Rattle.agxx_main.specs.Lines.{usage_line, ended_line, unreadable_line, refusal_line}
+
+abbrev pub usage : Answer
+usage = record { status = status_of.Usage; out = []; diag = usage_line }
+
+abbrev pub unreadable : List ℕ → Answer
+unreadable file = record { status = status_of.ReadFault; out = []; diag = unreadable_line file }
+
+abbrev pub refused : List ℕ → Refusal → Answer
+refused file refusal = record { status = status_of.Refused; out = []; diag = refusal_line file refusal }
+
+abbrev pub ended : List ℕ → Answer
+ended out = record { status = status_of.Done; out = out; diag = ended_line }
+
+-- a rule that is violated at the beginning of the file
+abbrev pub at_beginning : Rule → Refusal
+at_beginning rule = record { rule = rule; place = record { file = 0; line = 1; column = 1 } }
+
+-- What `exec` answers for a file of these bytes: a refusal for its size, its tokens or its form, or the run of its
+-- `main`, which ends with 0.
+pub data IsRunOf (file text : List ℕ) (answer : Answer) : Type 0 where
+  too_large : 16777216 < length text → answer ≡ refused file (at_beginning S1) → IsRunOf file text answer
+  no_tokens : (refusal : Refusal) → length text ≤ 16777216 → RefusedAt Woven 0 text refusal → answer ≡ refused file refusal → IsRunOf file text answer
+  runs : (tokens : List Token) (end : Place) (statements : List Statement) → length text ≤ 65536 → HasTokens Woven 0 text tokens end → IsFirstForm tokens statements
+      → answer ≡ ended (printed statements) → IsRunOf file text answer
+  unbuilt : (tokens : List Token) (end : Place) → length text ≤ 16777216 → HasTokens Woven 0 text tokens end
+      → ((statements : List Statement) → IsFirstForm tokens statements → length text ≤ 65536 → ⊥) → answer ≡ refused file (at_beginning U1) → IsRunOf file text answer
+
+-- what `exec` answers for a file of this name
+abbrev pub IsExecOf : List ℕ → Option (List ℕ) → Answer → Type 0
+IsExecOf file None answer = answer ≡ unreadable file
+IsExecOf file (Some text) answer = IsRunOf file text answer
+
+-- The answer for these words and files.
+pub data IsAnswer (words : List (List ℕ)) (files : Listing) (answer : Answer) : Type 0 where
+  no_command : IsUsage words → answer ≡ usage → IsAnswer words files answer
+  exec : (file : List ℕ) → MeansExec words file → IsExecOf file (file_named file files) answer → IsAnswer words files answer

@@ -1,0 +1,79 @@
+//! The command `exec`: what it answers for a file.
+
+ghost use Rattle.std.specs.Prelude.{◌≡◌, ◌≤◌, length, IfOk};
+ghost use Rattle.cxx_lex.specs.TokList.{tokens_of};
+ghost use Rattle.cxx_lex.specs.Tokens.{HasTokens};
+ghost use Rattle.agxx_base.specs.declared.kind.Mode.TheVariants.{Woven};
+ghost use Rattle.agxx_main.specs.Answers as answers;
+ghost use Rattle.agxx_main.specs.Answers.{IsRunOf};
+ghost use Rattle.agxx_main.specs.Outcome.{IsExecDue};
+
+use crate::answer::Answer;
+use crate::output::output_of;
+use agxx_base::{
+    Fault, Files, Memory, Mode, Names, Place, ReadError, Refusal, Rule, Text, read_whole,
+};
+use cxx_lex::{Toks, lex_all};
+use cxx_parse::parse_program;
+use std::alloc::Global;
+
+/// The most bytes of a program file that is read in mode Woven.
+const LARGEST_PROGRAM: u32 = 16_777_216;
+
+/// The most bytes of a program of the first form.
+const LARGEST_FIRST_FORM: usize = 65_536;
+
+fn at_beginning(rule: Rule) -> Refusal
+    ensures { result ≡ answers.at_beginning rule }
+{
+    Refusal {
+        rule,
+        place: Place {
+            file: 0,
+            line: 1,
+            column: 1,
+        },
+    }
+}
+
+/// The answer for the tokens of a file.
+fn run(alloc: Global, file: &Text, text: &Text, toks: &Toks) -> Result<Answer, Memory>
+    requires small { length text.now ≤ 16777216 }
+    requires tokens { HasTokens Woven 0 text.now (tokens_of toks.now.items) toks.now.end }
+    ensures { IfOk result (λ answer. IsRunOf file.now text.now answer) }
+{
+    if text.bytes().len() > LARGEST_FIRST_FORM {
+        return Answer::refused(alloc, file, at_beginning(Rule::U1));
+    }
+    let mut names = Names::new(alloc);
+    match parse_program(alloc, &mut names, toks, Mode::Woven) {
+        Ok(program) => Answer::ended(alloc, output_of(alloc, &program)?),
+        Err(Fault::Refused(refusal)) => Answer::refused(alloc, file, refusal),
+        Err(Fault::Memory) => Err(Memory),
+    }
+}
+
+/// The answer for a file that was read.
+fn answer_text(alloc: Global, file: &Text, text: &Text) -> Result<Answer, Memory>
+    requires { length text.now ≤ 16777216 }
+    ensures { IfOk result (λ answer. IsRunOf file.now text.now answer) }
+{
+    match lex_all(alloc, text.bytes(), 0, Mode::Woven) {
+        Ok(toks) => run(alloc, file, text, &toks),
+        Err(Fault::Refused(refusal)) => Answer::refused(alloc, file, refusal),
+        Err(Fault::Memory) => Err(Memory),
+    }
+}
+
+/// The answer of `exec` for a file.
+pub fn exec<F: Files>(alloc: Global, file: &Text, files: &mut F) -> Result<Answer, Memory>
+    ensures due { IfOk result (λ answer. IsExecDue file.now (F.listed files.old) (F.faults files.old) (F.faults files.new) answer) }
+    ensures listed { F.listed files.new ≡ F.listed files.old }
+{
+    match read_whole(alloc, files, file, LARGEST_PROGRAM) {
+        Ok(text) => answer_text(alloc, file, &text),
+        Err(ReadError::TooLarge) => Answer::refused(alloc, file, at_beginning(Rule::S1)),
+        Err(ReadError::ReadFault) => Answer::unreadable(alloc, file),
+        Err(ReadError::Memory) => Err(Memory),
+    }
+}

@@ -1,0 +1,47 @@
+//! The top call: all that the program does.
+
+ghost use Rattle.std.specs.Prelude.{◌≡◌, ◌⊎◌, IfOk, OnErr};
+ghost use Rattle.agxx_base.specs.Causes.{Rose};
+ghost use Rattle.agxx_main.specs.Outcome.{Ends, Gets, GivesUp};
+
+use crate::answer::Answer;
+use crate::exec::exec;
+use crate::words::exec_file;
+use agxx_base::{Files, Memory, Sink, Status, Words, write_whole};
+use std::alloc::Global;
+
+/// Writes an answer to standard output and then to standard error, or tells that memory was refused.
+fn deliver<O: Sink, E: Sink>(answer: Result<Answer, Memory>, out: &mut O, diag: &mut E) -> Status
+    ensures given { IfOk answer (λ a. Gets a (O.taken out.old) (O.taken out.new) (E.taken diag.old) (E.taken diag.new) (Rose (O.faults out.old) (O.faults out.new) ⊎ Rose (E.faults diag.old) (E.faults diag.new)) result) }
+    ensures memory { OnErr answer (GivesUp (O.taken out.old) (O.taken out.new) (E.taken diag.old) (E.taken diag.new) result) }
+{
+    let Ok(answer) = answer else {
+        return Status::Memory;
+    };
+    if write_whole(out, answer.out.bytes()).is_err() {
+        return Status::WriteFault;
+    }
+    if write_whole(diag, answer.diag.bytes()).is_err() {
+        return Status::WriteFault;
+    }
+    answer.status
+}
+
+/// Does what the words of a command line ask for, the program's name left out: reads from `files`, writes the output to
+/// `out` and diagnostics to `diag`, and answers the status.
+pub fn agxx<F: Files, O: Sink, E: Sink>(
+    alloc: Global,
+    words: &Words,
+    files: &mut F,
+    out: &mut O,
+    diag: &mut E,
+) -> Status
+    ensures ends { Ends words.now (F.listed files.old) (F.faults files.old) (F.faults files.new) (O.taken out.old) (O.taken out.new) (E.taken diag.old) (E.taken diag.new)
+        (Rose (O.faults out.old) (O.faults out.new) ⊎ Rose (E.faults diag.old) (E.faults diag.new)) result }
+    ensures listed { F.listed files.new ≡ F.listed files.old }
+{
+    match exec_file(words) {
+        None => deliver(Answer::usage(alloc), out, diag),
+        Some(file) => deliver(exec(alloc, file, files), out, diag),
+    }
+}
