@@ -1,5 +1,5 @@
 -- Ends of comments.
-use Rattle.std.proofs.Common.{◌≡◌, ℕ, suc, ◌<◌, ◌+◌, false, List, [], ◌∷◌, drop, length, get_or, drop-cons, Option, Some, None, refl, sym, ap, ◌∙◌, subst, add-one, arith}
+use Rattle.std.proofs.Common.{◌≡◌, ℕ, suc, ◌<◌, ◌+◌, false, List, ◌∷◌, drop, length, get_or, drop-cons, Option, Some, None, refl, sym, ap, subst, add-one, arith}
 use Rattle.cxx_lex.specs.Runs.{one_more, closes, close_len}
 use Rattle.cxx_lex.proofs.Runs.{longer}
 

@@ -1,14 +1,13 @@
 -- Comments and blanks at the front of a text.
-use Rattle.std.proofs.Common.{◌≡◌, ◌≢◌, ℕ, zero, suc, ◌≤◌, ◌<◌, ◌+◌, Bool, true, false, cond, List, [], ◌∷◌, ◌++◌, take, drop, length, length-append, append_assoc, Option, Some, None, refl, sym, ap, ◌∙◌, subst, arith}
+use Rattle.std.proofs.Common.{◌≡◌, ℕ, suc, Bool, true, false, cond, List, [], ◌∷◌, ◌++◌, length, Option, Some, None, refl, sym, ap, ◌∙◌}
 use Rattle.std.specs.Prelude.{◌==◌, ◌&&◌, ◌||◌, not}
 use Rattle.std.proofs.lemmas.Bool.{eqb-true}
-use Rattle.std.proofs.Math.Seq.{take-append_seam, drop-append_seam}
-use Rattle.cxx_lex.specs.Bytes.{begins_with, is_in_line, has_pair, opens_comment, begins_comment}
+use Rattle.cxx_lex.specs.Bytes.{begins_with, is_in_line, has_pair, begins_comment}
 use Rattle.cxx_lex.specs.declared.front.Front.TheVariants as front
 use Rattle.cxx_lex.specs.Runs.{run, one_more, closes, close_len}
 use Rattle.cxx_lex.specs.Tokens.{EndsLine}
 use Rattle.cxx_lex.specs.Scan.{block_front, comment_front}
-use Rattle.cxx_lex.proofs.Runs.{both, not-false, Stops}
+use Rattle.cxx_lex.proofs.Runs.{both, Stops}
 
 and-false : (x : Bool) → (x && false) ≡ false
 and-false true = refl

@@ -1,17 +1,15 @@
 -- The member that is found is the longest, and where none is found none stands.
-use Rattle.std.proofs.Common.{◌≡◌, ◌≢◌, ℕ, zero, suc, ◌≤◌, ◌<◌, ◌+◌, Bool, true, false, cond, List, [], ◌∷◌, ◌++◌, take, drop, length, length-append, append-nil, Option, Some, None, Result, Ok, Err, refl, sym, ap, ◌∙◌, subst, arith}
-use Rattle.std.specs.Prelude.{◌==◌, ◌||◌}
-use Rattle.std.specs.List.{list_all}
+use Rattle.std.proofs.Common.{◌≡◌, ℕ, ◌≤◌, Bool, true, false, cond, List, [], ◌∷◌, ◌++◌, take, drop, length, length-append, Option, Some, None, Result, Ok, refl, sym, ap, ◌∙◌, subst, arith}
+use Rattle.std.specs.Prelude.{◌==◌}
 use Rattle.std.proofs.lemmas.Bool.{eqb-true}
 use Rattle.std.proofs.lemmas.List.{take-append-drop, length-take-le}
-use Rattle.std.proofs.Math.Seq.{take-append_seam, drop-append_seam}
+use Rattle.std.proofs.Math.Seq.{take-append_seam}
 use Rattle.agxx_base.specs.declared.kind.Mode.{Mode}
 use Rattle.agxx_base.specs.declared.rule.Rule.{Rule}
 use Rattle.cxx_lex.specs.declared.tok.Lexeme.{Lexeme}
 use Rattle.cxx_lex.specs.declared.tok.TokKind.{TokKind}
 use Rattle.cxx_lex.specs.declared.tok.TokKind.TheVariants as kind
 use Rattle.cxx_lex.specs.Bytes.{is_letter, is_digit, is_part}
-use Rattle.cxx_lex.specs.Words.{IsWord, word_verdict}
 use Rattle.cxx_lex.specs.Directives.{IsDirective}
 use Rattle.cxx_lex.specs.Lexemes.{IsLexeme, word, number, literal, directive, sign, IsLongest}
 use Rattle.cxx_lex.specs.Runs.{run}

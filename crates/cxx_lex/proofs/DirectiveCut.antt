@@ -1,8 +1,8 @@
 -- Directives at the front of a text.
-use Rattle.std.proofs.Common.{◌≡◌, ◌≢◌, ℕ, zero, suc, ◌≤◌, ◌<◌, ◌+◌, Bool, true, false, cond, List, [], ◌∷◌, ◌++◌, take, drop, length, length-append, append_assoc, append-nil, codes, Option, Some, None, Ok, refl, sym, ap, ◌∙◌, subst, eq-eqb, arith}
+use Rattle.std.proofs.Common.{◌≡◌, ◌≢◌, ℕ, suc, ◌+◌, Bool, true, false, cond, List, [], ◌∷◌, ◌++◌, take, drop, length, length-append, append_assoc, codes, Option, Some, None, Ok, refl, sym, ap, ◌∙◌, subst, eq-eqb, arith}
 use Rattle.std.specs.Prelude.{◌==◌, ◌&&◌, not, nat_eq}
-use Rattle.std.specs.List.{list_all, starts_with}
-use Rattle.std.proofs.lemmas.Bool.{eqb-true, false≢true}
+use Rattle.std.specs.List.{list_all}
+use Rattle.std.proofs.lemmas.Bool.{false≢true}
 use Rattle.std.proofs.lemmas.Bool.Decides.{Decides-eqb, nat_tests}
 use Rattle.std.proofs.lemmas.Slice.Eq.{starts_is}
 use Rattle.std.proofs.lemmas.List.{take-append-drop, length-take-le}
@@ -16,7 +16,7 @@ use Rattle.cxx_lex.specs.Bytes.{is_space}
 use Rattle.cxx_lex.specs.Directives.{bracketed, IsDirective, include, pragma}
 use Rattle.cxx_lex.specs.DirectiveScan.{stands, headers, first_header, header_at, header_lexeme, include_lexeme, pragma_lexeme, worded_lexeme, directive_lexeme}
 use Rattle.cxx_lex.specs.Runs.{run}
-use Rattle.cxx_lex.proofs.Runs.{both, not-false, Stops, run-le, run-all, run-front}
+use Rattle.cxx_lex.proofs.Runs.{Stops, run-le, run-all, run-front}
 
 -- blanks are passed
 pub passed : (gap rest : List ℕ) → list_all is_space gap ≡ true → Stops is_space rest → (run is_space (gap ++ rest) ≡ length gap) × (drop (run is_space (gap ++ rest)) (gap ++ rest) ≡ rest)

@@ -1,6 +1,6 @@
 -- What is found at the front of a text is what stands there.
-use Rattle.std.proofs.Common.{◌≡◌, ◌≢◌, ℕ, zero, suc, ◌≤◌, ◌<◌, ◌+◌, Bool, true, false, cond, List, [], ◌∷◌, ◌++◌, take, drop, length, length-append, append_assoc, Option, Some, None, Result, Ok, Err, refl, sym, ap, ◌∙◌, subst, eq-eqb, arith}
-use Rattle.std.specs.Prelude.{◌==◌, ◌&&◌, ◌||◌, not}
+use Rattle.std.proofs.Common.{◌≡◌, ◌≢◌, ℕ, zero, suc, ◌≤◌, Bool, true, false, cond, List, [], ◌∷◌, ◌++◌, take, drop, length, length-append, append_assoc, Option, Some, None, Result, Ok, Err, refl, sym, ap, ◌∙◌, subst, eq-eqb, arith}
+use Rattle.std.specs.Prelude.{◌==◌}
 use Rattle.std.specs.List.{list_all}
 use Rattle.std.proofs.lemmas.Bool.{eqb-true, false≢true}
 use Rattle.std.proofs.lemmas.List.{take-append-drop, length-take-le}
@@ -15,18 +15,18 @@ use Rattle.cxx_lex.specs.declared.strings.StringFault.TheVariants.{Unclosed, Bad
 use Rattle.cxx_lex.specs.declared.tok.Lexeme.{Lexeme}
 use Rattle.cxx_lex.specs.declared.tok.TokKind.{TokKind}
 use Rattle.cxx_lex.specs.declared.tok.TokKind.TheVariants as kind
-use Rattle.cxx_lex.specs.Bytes.{is_blank, is_in_line, begins_with, has_pair, begins_comment}
+use Rattle.cxx_lex.specs.Bytes.{is_blank, is_in_line, begins_with, begins_comment}
 use Rattle.cxx_lex.specs.Strings.{is_character, spelling, string_fault}
 use Rattle.cxx_lex.specs.Lexemes.{IsLexeme, IsLongest}
-use Rattle.cxx_lex.specs.Tokens.{EndsLine, IsGap, blank, line, block, clashes, IsTokenAt, IsRefused, comment, member, behind_number, open_string, bad_string, unknown}
+use Rattle.cxx_lex.specs.Tokens.{IsGap, blank, line, block, clashes, IsTokenAt, IsRefused, comment, member, behind_number, open_string, bad_string, unknown}
 use Rattle.cxx_lex.specs.Runs.{run, close_len}
 use Rattle.cxx_lex.specs.StringScan.{body_len, string_lexeme}
 use Rattle.cxx_lex.specs.Scan.{lexeme, block_front, comment_front, string_front, nothing_front, token_front, verdict_front, lexeme_front, comment_or, front_of}
-use Rattle.cxx_lex.proofs.Runs.{run-le, run-all, run-stops, run-front}
+use Rattle.cxx_lex.proofs.Runs.{run-all, run-stops, run-front}
 use Rattle.cxx_lex.proofs.Comments.{close-front, close-open, close-none, close-is, ends-line, line-stops, comment-none, comment-absent}
 use Rattle.cxx_lex.proofs.StringCut.{body-is, body-spelling, body-fails, string-ends}
 use Rattle.cxx_lex.proofs.Members.{no-member, member-blank}
-use Rattle.cxx_lex.proofs.Cut.{IsNoFront, IsFound, lexeme-found, longest-found, none-found}
+use Rattle.cxx_lex.proofs.Cut.{IsFound, lexeme-found, longest-found, none-found}
 
 -- ---- what is found stands there
 

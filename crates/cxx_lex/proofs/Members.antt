@@ -1,5 +1,5 @@
 -- The sets of texts, told apart by their first byte.
-use Rattle.std.proofs.Common.{◌≡◌, ◌≢◌, ℕ, zero, suc, ◌≤◌, ◌<◌, ◌+◌, Bool, true, false, cond, List, [], ◌∷◌, ◌++◌, take, drop, length, length-append, append-nil, Option, Some, None, Result, Ok, Err, refl, sym, ap, ◌∙◌, subst, arith}
+use Rattle.std.proofs.Common.{◌≡◌, ℕ, true, false, List, [], ◌∷◌, length, append-nil, Option, Some, None, Result, Ok, sym, ap, ◌∙◌, subst, arith}
 use Rattle.std.specs.Prelude.{◌==◌}
 use Rattle.std.proofs.lemmas.Bool.Decides.{nat_tests}
 use Rattle.agxx_base.specs.declared.kind.Mode.{Mode}
@@ -17,9 +17,8 @@ use Rattle.cxx_lex.specs.Numbers.{IsNumber, number_verdict}
 use Rattle.cxx_lex.specs.Strings.{IsString}
 use Rattle.cxx_lex.specs.Directives.{IsDirective}
 use Rattle.cxx_lex.specs.Lexemes.{IsLexeme, word, number, literal, directive, sign}
-use Rattle.cxx_lex.specs.DirectiveScan.{directive_lexeme}
 use Rattle.cxx_lex.proofs.Runs.{not-true}
-use Rattle.cxx_lex.proofs.SignCut.{IsSignByte, sign-first, no-sign, sign-unique}
+use Rattle.cxx_lex.proofs.SignCut.{sign-first, no-sign, sign-unique}
 use Rattle.cxx_lex.proofs.NumberCut.{number-first, no-number, number-unique}
 use Rattle.cxx_lex.proofs.DirectiveCut.{directive-first, no-directive, directive-exact}
 

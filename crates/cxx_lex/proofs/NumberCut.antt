@@ -1,17 +1,14 @@
 -- Numbers at the front of a text.
-use Rattle.std.proofs.Common.{◌≡◌, ◌≢◌, ℕ, zero, suc, ◌≤◌, ◌<◌, ◌+◌, Bool, true, false, cond, List, [], ◌∷◌, ◌++◌, take, drop, length, length-append, length-drop, append_assoc, append-nil, codes, Option, Some, None, Ok, ◌⊎◌, inl, inr, refl, sym, ap, ◌∙◌, subst, arith}
+use Rattle.std.proofs.Common.{◌≡◌, ℕ, suc, ◌≤◌, ◌+◌, Bool, true, false, cond, List, [], ◌∷◌, ◌++◌, take, drop, length, length-append, length-drop, append_assoc, append-nil, Some, ◌⊎◌, inl, inr, refl, sym, ap, ◌∙◌, subst, arith}
 use Rattle.std.specs.Prelude.{◌==◌, ◌&&◌, ◌||◌, not}
-use Rattle.std.specs.List.{list_all}
 use Rattle.std.proofs.lemmas.Bool.{eqb-true}
 use Rattle.std.proofs.lemmas.Bool.Decides.{nat_tests}
-use Rattle.std.proofs.lemmas.List.{take-append-drop}
 use Rattle.std.proofs.Math.Seq.{take-add, take-append_seam, drop-append_seam}
 use Rattle.cxx_lex.specs.declared.numbers.Base.{Base}
-use Rattle.cxx_lex.specs.declared.numbers.Base.TheVariants.{Decimal, Hexadecimal}
 use Rattle.cxx_lex.specs.declared.numbers.Suffix.{Suffix}
 use Rattle.cxx_lex.specs.declared.numbers.Suffix.TheVariants as suffix
 use Rattle.cxx_lex.specs.declared.tok.Lexeme.{Lexeme}
-use Rattle.cxx_lex.specs.Bytes.{is_digit, is_hexadecimal, is_x, begins_with}
+use Rattle.cxx_lex.specs.Bytes.{is_digit, is_hexadecimal, is_x}
 use Rattle.cxx_lex.specs.Words.{entry_of}
 use Rattle.cxx_lex.specs.Numbers.{in_base, IsNumeral, nought, decimal, hexadecimal, suffixes, IsNumber, number_verdict}
 use Rattle.cxx_lex.specs.NumberScan.{is_prefixed, base_at, digits_len, digits_value, begins_twice, suffix_at, suffix_len, number_lexeme}

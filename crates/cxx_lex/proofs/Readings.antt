@@ -1,17 +1,16 @@
 -- The lexing of whole texts.
-use Rattle.std.proofs.Common.{◌≡◌, ◌≢◌, ℕ, zero, suc, ◌≤◌, ◌<◌, ◌+◌, List, [], ◌∷◌, ◌++◌, take, drop, length, length-append, append_assoc, append-nil, fold, Option, Some, None, ◌⊎◌, inl, inr, refl, sym, ap, ◌∙◌, subst, arith}
+use Rattle.std.proofs.Common.{◌≡◌, ℕ, zero, suc, List, [], ◌∷◌, ◌++◌, take, drop, length, append_assoc, append-nil, ◌⊎◌, inl, inr, refl, sym, ap, ◌∙◌, subst}
 use Rattle.std.proofs.lemmas.List.{take-append-drop}
 use Rattle.std.proofs.Math.Seq.{take-append_seam, drop-append_seam}
 use Rattle.std.proofs.lemmas.List.Sums.{fold-append}
 use Rattle.agxx_base.specs.declared.fault.Refusal.{Refusal}
 use Rattle.agxx_base.specs.declared.kind.Mode.{Mode}
 use Rattle.agxx_base.specs.declared.place.Place.{Place}
-use Rattle.agxx_base.specs.declared.rule.Rule.{Rule}
 use Rattle.cxx_lex.specs.declared.front.Front.{Front}
 use Rattle.cxx_lex.specs.declared.front.Front.TheVariants as front
 use Rattle.cxx_lex.specs.declared.tok.TokKind.{TokKind}
 use Rattle.cxx_lex.specs.Place.{start_of, next_place, place_after}
-use Rattle.cxx_lex.specs.Tokens.{Token, IsGap, IsTokenAt, IsRefused, Reads, arrives, past_gap, past_token, HasTokens, RefusedFrom, RefusedAt}
+use Rattle.cxx_lex.specs.Tokens.{Token, IsGap, IsTokenAt, Reads, arrives, past_gap, past_token, HasTokens, RefusedFrom, RefusedAt}
 use Rattle.cxx_lex.specs.Scan.{front_of}
 use Rattle.cxx_lex.specs.Lexed.{Lexed, tokens, refused, before, by_front, lexed_from, lexed}
 use Rattle.cxx_lex.specs.Laws.{HasOneReading, HasOneRefusal, IsNeverBoth, IsAlwaysOne, TellsTokens, TellsRefusals}

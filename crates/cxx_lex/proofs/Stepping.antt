@@ -1,6 +1,5 @@
 -- The steps of a lexer, and of a call that takes all of them.
-use Rattle.std.proofs.Common.{◌≡◌, ◌≢◌, ℕ, zero, suc, ◌≤◌, ◌<◌, ◌+◌, ◌^◌, Bool, true, false, List, [], ◌∷◌, ◌++◌, take, drop, map, length, length-append, append_assoc, append-nil, refl, sym, ap, ◌∙◌, subst, arith}
-use Rattle.std.specs.Prelude.{◌==◌}
+use Rattle.std.proofs.Common.{◌≡◌, ℕ, ◌≤◌, ◌<◌, ◌+◌, ◌^◌, List, [], ◌∷◌, ◌++◌, take, drop, length, length-append, append-nil, refl, sym, ap, ◌∙◌, subst, arith}
 use Rattle.std.proofs.lemmas.List.{take-append-drop}
 use Rattle.agxx_base.specs.declared.fault.Refusal.{Refusal}
 use Rattle.agxx_base.specs.declared.kind.Mode.{Mode}
@@ -11,14 +10,13 @@ use Rattle.cxx_lex.specs.declared.front.Front.TheVariants as front
 use Rattle.cxx_lex.specs.declared.tok.Tok.{Tok}
 use Rattle.cxx_lex.specs.declared.tok.TokKind.{TokKind}
 use Rattle.cxx_lex.specs.Left.{Left, HasRoom}
-use Rattle.cxx_lex.specs.Lexed.{lexed, tokens, refused}
 use Rattle.cxx_lex.specs.Place.{start_of, place_after}
 use Rattle.cxx_lex.specs.Scan.{front_of}
 use Rattle.cxx_lex.specs.Steps.{IsNext, EndsAt, RefusesAt}
-use Rattle.cxx_lex.specs.TokList.{TokList, tokens_of}
+use Rattle.cxx_lex.specs.TokList.{tokens_of}
 use Rattle.cxx_lex.specs.Tokens.{Token, token_of, IsGap, IsTokenAt, IsRefused, Reads, arrives, past_gap, past_token, HasTokens, RefusedAt}
 use Rattle.cxx_lex.proofs.Fronts.{IsFront, front-is, some-token}
-use Rattle.cxx_lex.proofs.Readings.{has_tokens, is_refused, reads-place, reads-on}
+use Rattle.cxx_lex.proofs.Readings.{reads-place, reads-on}
 
 -- what a lexer knows behind blanks and comments
 pub record IsBehindGaps (old now : Left) (at : Place) (left : List ℕ) : Type 0 where

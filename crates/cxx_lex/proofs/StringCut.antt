@@ -1,17 +1,16 @@
 -- Strings at the front of a text.
-use Rattle.std.proofs.Common.{◌≡◌, ◌≢◌, ℕ, zero, suc, ◌≤◌, ◌<◌, ◌+◌, Bool, true, false, cond, List, [], ◌∷◌, ◌++◌, take, drop, length, length-append, append_assoc, append-nil, Option, Some, None, Ok, ◌⊎◌, inl, inr, refl, sym, ap, ◌∙◌, subst, arith}
-use Rattle.std.specs.Prelude.{◌==◌, ◌&&◌, ◌||◌, not}
+use Rattle.std.proofs.Common.{◌≡◌, ℕ, zero, suc, ◌≤◌, ◌+◌, Bool, true, false, cond, List, [], ◌∷◌, ◌++◌, take, drop, length, length-append, append_assoc, append-nil, Some, None, Ok, refl, sym, ap, ◌∙◌, subst, arith}
+use Rattle.std.specs.Prelude.{◌==◌, ◌||◌}
 use Rattle.std.specs.List.{list_all}
 use Rattle.std.proofs.lemmas.Bool.{eqb-true}
 use Rattle.std.proofs.lemmas.Bool.Decides.{nat_tests}
-use Rattle.std.proofs.lemmas.List.{take-append-drop}
 use Rattle.std.proofs.Math.Seq.{drop-append_seam}
 use Rattle.cxx_lex.specs.declared.strings.StringFault.{StringFault}
 use Rattle.cxx_lex.specs.declared.strings.StringFault.TheVariants.{Unclosed, BadByte}
 use Rattle.cxx_lex.specs.declared.tok.Lexeme.{Lexeme}
 use Rattle.cxx_lex.specs.declared.tok.TokKind.TheVariants as kind
 use Rattle.cxx_lex.specs.Bytes.{is_plain, is_escape, begins_with}
-use Rattle.cxx_lex.specs.Strings.{is_character, spelled, spelling, quoted, IsString, escape_fault, string_fault, escape_value, meant, string_value, ReadsQuoted}
+use Rattle.cxx_lex.specs.Strings.{is_character, spelled, spelling, IsString, escape_fault, string_fault, escape_value, meant, string_value, ReadsQuoted}
 use Rattle.cxx_lex.specs.StringScan.{body_len, escape_len, string_lexeme}
 use Rattle.cxx_lex.proofs.Runs.{both}
 

@@ -1,5 +1,6 @@
 -- Keywords by their length.
-use Rattle.std.specs.Prelude.{ℕ, if◌then◌else◌, ◌==◌, List, [], ◌∷◌, length, Option}
+use Rattle.std.specs.Prelude.{ℕ, map, if◌then◌else◌, ◌==◌, List, [], ◌∷◌, length, Option}
+use Rattle.std.proofs.Common.{Bor}
 use Rattle.agxx_base.specs.declared.vocabulary.Keyword.{Keyword}
 use Rattle.cxx_lex.specs.Words.{keywords, entry_of}
 
@@ -10,3 +11,7 @@ of_length n (e ∷ es) = if length e.0 == n then e ∷ of_length n es else of_le
 
 abbrev pub keyword_among : ℕ → List ℕ → Option Keyword
 keyword_among n text = entry_of (of_length n keywords) text
+
+-- a table of borrowed texts, as the list that it is
+abbrev pub entries_of : List (Bor (List ℕ) × Keyword) → List (List ℕ × Keyword)
+entries_of entries = map (λ e. (e.0.now, e.1)) entries

@@ -1,5 +1,5 @@
 -- The sets of texts of which a token is the longest member at its place.
-use Rattle.std.specs.Prelude.{◌≡◌, ◌≤◌, ℕ, false, List, ◌++◌, length, Result, Ok, Err}
+use Rattle.std.specs.Prelude.{◌≡◌, ◌≤◌, ℕ, false, List, ◌++◌, length, Result, Ok}
 use Rattle.agxx_base.specs.declared.kind.Mode.{Mode}
 use Rattle.agxx_base.specs.declared.rule.Rule.{Rule}
 use Rattle.agxx_base.specs.declared.vocabulary.Sign.{Sign}

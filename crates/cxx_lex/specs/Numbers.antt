@@ -1,5 +1,5 @@
 -- Numbers.
-use Rattle.std.specs.Prelude.{◌≡◌, ℕ, Bool, true, false, if◌then◌else◌, ◌==◌, ◌+◌, ◌-◌, ◌*◌, ◌^◌, nat_lt, nat_le, List, [], ◌∷◌, ◌++◌, fold, find, codes, Option, Some, None, Result, Ok, Err}
+use Rattle.std.specs.Prelude.{◌≡◌, ℕ, true, false, if◌then◌else◌, ◌==◌, ◌+◌, ◌-◌, ◌*◌, ◌^◌, nat_lt, nat_le, List, [], ◌∷◌, ◌++◌, fold, codes, Option, Some, None, Result, Ok, Err}
 use Rattle.std.specs.List.{list_all}
 use Rattle.agxx_base.specs.declared.kind.NumKind.{NumKind}
 use Rattle.agxx_base.specs.declared.kind.NumKind.TheVariants as num

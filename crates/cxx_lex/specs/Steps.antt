@@ -1,5 +1,5 @@
 -- What a step of the lexer tells.
-use Rattle.std.specs.Prelude.{◌≡◌, ℕ, List, [], ◌∷◌, ◌++◌}
+use Rattle.std.specs.Prelude.{◌≡◌, ℕ, List, [], ◌++◌}
 use Rattle.agxx_base.specs.declared.fault.Refusal.{Refusal}
 use Rattle.agxx_base.specs.declared.place.Place.{Place}
 use Rattle.cxx_lex.specs.declared.lexer.LexStep.{LexStep}

@@ -24,18 +24,15 @@ fn next_place(at: Place, b: u8) -> Place
     requires column { at.column < 2 ^ 32 - 1 }
     ensures { result ≡ place.next_place at b }
 {
-    if b == b'\n' {
-        Place {
-            file: at.file,
-            line: at.line + 1,
-            column: 1,
-        }
+    let (line, column) = if b == b'\n' {
+        (at.line + 1, 1)
     } else {
-        Place {
-            file: at.file,
-            line: at.line,
-            column: at.column + 1,
-        }
+        (at.line, at.column + 1)
+    };
+    Place {
+        file: at.file,
+        line,
+        column,
     }
 }
 

@@ -1,8 +1,8 @@
-use Rattle.std.proofs.Common.{◌≡◌, sym, ap, ◌∙◌, subst}
+use Rattle.std.proofs.Common.{sym, ap, ◌∙◌, subst}
 use Rattle.cxx_lex.specs.Tokens.{HasTokens, token_of}
-use Rattle.cxx_lex.specs.TokList.{TokList, tokens_of}
-use Rattle.cxx_lex.specs.Place.{start_of, place_after}
-use Rattle.cxx_lex.specs.Lexed.{lexed, tokens}
+use Rattle.cxx_lex.specs.TokList.{tokens_of}
+use Rattle.cxx_lex.specs.Place.{start_of}
+use Rattle.cxx_lex.specs.Lexed.{tokens}
 use Rattle.cxx_lex.proofs.Readings.{has_tokens, is_refused}
 use Rattle.cxx_lex.proofs.Stepping.{reading-begins, reading-goes-on, token-shortens, reading-ends, end-behind, reading-refused}
 use Rattle.cxx_lex.proofs.all.lex_all.Goals as goal

@@ -1,4 +1,4 @@
-use Rattle.std.proofs.Common.{◌≡◌, false, drop, sym, ◌∙◌, arith}
+use Rattle.std.proofs.Common.{◌≡◌, false, drop, ◌∙◌, arith}
 use Rattle.std.proofs.lemmas.Grind.{common_steps}
 use Rattle.cxx_lex.specs.Runs.{closes}
 use Rattle.cxx_lex.proofs.Closes.{close_turn}

@@ -1,4 +1,4 @@
-use Rattle.std.proofs.Common.{◌≡◌, ◌≤◌, ◌<◌, ◌-◌, ◌++◌, length, drop}
+use Rattle.std.proofs.Common.{◌≡◌, ◌-◌, ◌++◌, length, drop}
 use Rattle.cxx_lex.specs.Strings.{meant, string_value}
 use Rattle.cxx_lex.proofs.literals.string_bytes.Given as goal
 

@@ -1,4 +1,4 @@
-use Rattle.std.proofs.Common.{◌≡◌, ◌+◌, ◌*◌, fold, refl, sym, ◌∙◌, ap, arith, drop_of_length-le}
+use Rattle.std.proofs.Common.{◌+◌, ◌*◌, fold, refl, sym, ◌∙◌, ap, arith, drop_of_length-le}
 use Rattle.cxx_lex.specs.Numbers.{digit_value}
 use Rattle.cxx_lex.specs.NumberScan.{held}
 use Rattle.cxx_lex.proofs.NumberValues.{in_base-large, held-small}

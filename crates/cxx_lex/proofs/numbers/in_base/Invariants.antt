@@ -1,4 +1,4 @@
-use Rattle.std.proofs.Common.{◌≡◌, ◌<◌, ◌+◌, ◌*◌, ◌^◌, fold, drop, ℕ}
+use Rattle.std.proofs.Common.{◌≡◌, ◌<◌, ◌+◌, ◌*◌, ◌^◌, fold, drop}
 use Rattle.cxx_lex.specs.Numbers.{in_base, digit_value}
 use Rattle.cxx_lex.proofs.numbers.in_base.Given as goal
 
