@@ -22,7 +22,7 @@ kind_text num.U32 = codes "uint32_t"
 kind_text num.I64 = codes "int64_t"
 kind_text num.U64 = codes "uint64_t"
 
--- the text of each keyword that the profile's grammar has; a reserved word has one of several
+-- the text of each keyword that the language's grammar has; a reserved word has one of several
 abbrev pub keyword_text : Keyword → List ℕ
 keyword_text keyword.Class = codes "class"
 keyword_text keyword.Struct = codes "struct"
@@ -52,7 +52,7 @@ keyword_text keyword.Tjp = codes "tjp"
 keyword_text (keyword.Number kind) = kind_text kind
 keyword_text keyword.Reserved = []
 
--- the keywords of C++20 that stand nowhere in the profile's grammar
+-- the keywords of C++20 that stand nowhere in the language's grammar
 abbrev pub reserved_words : List (List ℕ)
 reserved_words =
     codes "alignas" ∷ codes "alignof" ∷ codes "asm" ∷ codes "auto" ∷ codes "break" ∷ codes "case" ∷ codes "catch" ∷ codes "char" ∷ codes "char8_t" ∷ codes "char16_t" ∷ codes "char32_t" ∷ codes "concept" ∷ codes "const" ∷ codes "consteval" ∷ codes "constexpr" ∷ codes "constinit" ∷ codes "const_cast" ∷ codes "continue" ∷ codes "co_await" ∷ codes "co_return" ∷ codes "co_yield" ∷ codes "decltype" ∷ codes "default" ∷ codes "do" ∷ codes "double" ∷ codes "dynamic_cast" ∷ codes "enum" ∷ codes "explicit" ∷ codes "export" ∷ codes "extern" ∷ codes "float" ∷ codes "friend" ∷ codes "goto" ∷ codes "inline" ∷ codes "long" ∷ codes "mutable" ∷ codes "namespace" ∷ codes "noexcept" ∷ codes "operator" ∷ codes "register" ∷ codes "reinterpret_cast" ∷ codes "requires" ∷ codes "short" ∷ codes "signed" ∷ codes "sizeof" ∷ codes "static" ∷ codes "static_assert" ∷ codes "static_cast" ∷ codes "switch" ∷ codes "template" ∷ codes "thread_local" ∷ codes "throw" ∷ codes "try" ∷ codes "typedef" ∷ codes "typeid" ∷ codes "typename" ∷ codes "union" ∷ codes "using" ∷ codes "volatile" ∷ codes "wchar_t" ∷ codes "and" ∷ codes "and_eq" ∷ codes "bitand" ∷ codes "bitor" ∷ codes "compl" ∷ codes "not" ∷ codes "not_eq" ∷ codes "or" ∷ codes "or_eq" ∷ codes "xor" ∷ codes "xor_eq" ∷ []

@@ -79,6 +79,7 @@ pub struct StdSink<W: Write + Drop> {
 }
 
 impl<W: Write + Drop> StdSink<W> {
+    /// A sink over the writer.
     pub fn new(writer: W) -> StdSink<W>
         ensures { result.faults ≡ 0 }
     {

@@ -1,6 +1,6 @@
 //! Kinds of numbers, and the two modes of reading.
 
-/// The number types of C++ that the profile has, `bool` among them. `int` is `I32` and `unsigned` is `U32`.
+/// The number types of C++ that the language has, `bool` among them. `int` is `I32` and `unsigned` is `U32`.
 #[derive(Clone, Copy, Debug, PartialEq, Eq)]
 pub enum NumKind {
     Bool,

@@ -38,6 +38,7 @@ impl Names {
         }
     }
 
+    /// How many names have a number.
     pub fn len(&self) -> usize
         ensures len { result ≡ length self.now }
         ensures few { length self.now ≤ 2 ^ 32 }

@@ -3,7 +3,7 @@
 ghost use Rattle.std.specs.Prelude.{◌≡◌};
 ghost use Rattle.agxx_base.specs.Rules.{code_of, message_of};
 
-/// A rule that an input may violate. Rules compare in this order. A rule's letter tells its subject: `S` sizes of
+/// A rule that an input may violate. The rules stand in the order in which they are compared. A rule's letter tells its subject: `S` sizes of
 /// files, `F` plans, `L` tokens, `G` grammar, `N` names and types, `A` aspects, `P` protection, `W` weaving; `U` is
 /// for forms that are not built yet.
 #[derive(Clone, Copy, Debug, PartialEq, Eq)]

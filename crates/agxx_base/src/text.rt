@@ -37,6 +37,7 @@ impl Text {
         Text { bytes }
     }
 
+    /// Lends the bytes.
     pub fn bytes(&self) -> &[u8]
         ensures { result.now ≡ self.now }
     {

@@ -32,7 +32,7 @@ pub enum Keyword {
     Tjp,
     /// The name of a number type, `bool` among them; `int` and `unsigned` are keywords of their own.
     Number(NumKind),
-    /// A keyword of C++20 that stands nowhere in the profile, an alternative token among them.
+    /// A keyword of C++20 that stands nowhere in the language's grammar, an alternative token among them.
     Reserved,
 }
 

@@ -1,6 +1,6 @@
 //! Whole files read, and whole lists of bytes written.
 
-ghost use Rattle.std.specs.Prelude.{◌≡◌, ◌≤◌, ◌<◌, ◌+◌, length, vec_len, IfOk, IfSome, IsErrOf};
+ghost use Rattle.std.specs.Prelude.{◌≡◌, ◌≤◌, ◌<◌, ◌+◌, length, vec_len, [], IfOk, OnOk, IfSome, IsErrOf};
 ghost use Rattle.agxx_base.specs.Causes.{Rose};
 ghost use Rattle.agxx_base.specs.Files.{ReadsWhole};
 ghost use Rattle.agxx_base.specs.Sink.{WritesWhole};
@@ -29,6 +29,8 @@ pub fn read_whole<F: Files>(
 ) -> Result<Text, ReadError>
     ensures answer { ReadsWhole (F.listed files.old) name.now limit (F.faults files.old) (F.faults files.new) result }
     ensures listed { F.listed files.new ≡ F.listed files.old }
+    // The file was read to its end.
+    ensures end { OnOk result (IfSome (F.listed files.old) (λ _. F.left files.new ≡ [])) }
     ensures reads { F.reads files.new ≤ F.reads files.old + limit + 2 }
 {
     match files.start_file(name) {
@@ -45,6 +47,7 @@ fn read_rest<F: Files>(alloc: Global, files: &mut F, limit: u32) -> Result<Vec<u
     ensures too_large { IsErrOf result ReadError.TooLarge → IfSome (F.listed files.old) (λ _. limit < length (F.left files.old)) }
     ensures read_fault { IsErrOf result ReadError.ReadFault → Rose (F.faults files.old) (F.faults files.new) }
     ensures listed { F.listed files.new ≡ F.listed files.old }
+    ensures end { OnOk result (IfSome (F.listed files.old) (λ _. F.left files.new ≡ [])) }
     ensures reads { F.reads files.new ≤ F.reads files.old + limit + 2 }
 {
     let limit = limit as usize;

@@ -16,7 +16,9 @@ use Rattle.agxx_main.specs.declared.answer.Answer.{Answer}
 use Rattle.agxx_main.specs.Commands.{MeansExec, IsUsage}
 use Rattle.agxx_main.specs.Answers.{usage, refused, unreadable, at_beginning, IsRunOf, too_large, IsExecOf, IsAnswer, no_command, exec}
 use Rattle.agxx_main.specs.Outcome.{IsDue, told, untold, unread, IsExecDue, told_file, untold_file, unread_file, GetsPrefix, Gets, no_memory, GivesUp, Ends}
-use Rattle.agxx_main.proofs.Runs.{has-run, never-unread}
+use Rattle.agxx_main.specs.Laws.{HasOneAnswer, UsageHasAnswer, ExecHasAnswer}
+use Rattle.cxx_lex.proofs.Readings.{always_one}
+use Rattle.agxx_main.proofs.Runs.{has-run, never-unread, one-run}
 
 -- ---- by what reading a file answered
 
@@ -82,19 +84,45 @@ no-bytes taken after bytes e = (0, omega arith, e ∙ nothing taken)
     nothing None = refl
     nothing (Some had) = ap Some (sym (append-nil had))
 
-pub gives-up : (answer : Answer) (out out' diag diag' : Option (List ℕ)) (failed : Type 0) (result : Status) → GivesUp out out' diag diag' result → Gets answer out out' diag diag' failed result
-gives-up answer out out' diag diag' failed result g = no_memory g.status (no-bytes out out' answer.out g.out_stays) (no-bytes diag diag' answer.diag g.diag_stays)
+pub gives-up : (answer : Answer) (out out' diag diag' : Option (List ℕ)) (out_failed diag_failed : Type 0) (result : Status) → GivesUp out out' diag diag' result → Gets answer out out' diag diag' out_failed diag_failed result
+gives-up answer out out' diag diag' out_failed diag_failed result g = no_memory g.status (no-bytes out out' answer.out g.out_stays) (no-bytes diag diag' answer.diag g.diag_stays)
 
 -- ---- the end of a call
 
-pub usage-ends : (words : List (List ℕ)) (listed : Option Listing) (count : ℕ) (out out' diag diag' : Option (List ℕ)) (failed : Type 0) (r : Result Answer Memory) (result : Status)
-    → IsUsage words → IfOk r (λ a. a ≡ usage) → IfOk r (λ a. Gets a out out' diag diag' failed result) → OnErr r (GivesUp out out' diag diag' result) → Ends words listed count count out out' diag diag' failed result
-usage-ends words listed count out out' diag diag' failed (Ok a) result u e g m = record { answer = a; due = usage-due words listed count count a u e; given = g }
-usage-ends words listed count out out' diag diag' failed (Err x) result u e g m = record { answer = usage; due = usage-due words listed count count usage u refl; given = gives-up usage out out' diag diag' failed result m }
+pub usage-ends : (words : List (List ℕ)) (listed : Option Listing) (count : ℕ) (out out' diag diag' : Option (List ℕ)) (out_failed diag_failed : Type 0) (r : Result Answer Memory) (result : Status)
+    → IsUsage words → IfOk r (λ a. a ≡ usage) → IfOk r (λ a. Gets a out out' diag diag' out_failed diag_failed result) → OnErr r (GivesUp out out' diag diag' result) → Ends words listed count count out out' diag diag' out_failed diag_failed result
+usage-ends words listed count out out' diag diag' out_failed diag_failed (Ok a) result u e g m = record { answer = a; due = usage-due words listed count count a u e; given = g }
+usage-ends words listed count out out' diag diag' out_failed diag_failed (Err x) result u e g m = record { answer = usage; due = usage-due words listed count count usage u refl; given = gives-up usage out out' diag diag' out_failed diag_failed result m }
 
-pub exec-ends : IsAlwaysOne → (words : List (List ℕ)) (file : List ℕ) (listed : Option Listing) (before now : ℕ) (out out' diag diag' : Option (List ℕ)) (failed : Type 0) (r : Result Answer Memory) (result : Status)
-    → MeansExec words file → IfOk r (IsExecDue file listed before now) → IfOk r (λ a. Gets a out out' diag diag' failed result) → OnErr r (GivesUp out out' diag diag' result) → Ends words listed before now out out' diag diag' failed result
-exec-ends always words file listed before now out out' diag diag' failed (Ok a) result x d g m = record { answer = a; due = exec-due words file listed before now a x d; given = g }
-exec-ends always words file listed before now out out' diag diag' failed (Err z) result x d g m =
+pub exec-ends : IsAlwaysOne → (words : List (List ℕ)) (file : List ℕ) (listed : Option Listing) (before now : ℕ) (out out' diag diag' : Option (List ℕ)) (out_failed diag_failed : Type 0) (r : Result Answer Memory) (result : Status)
+    → MeansExec words file → IfOk r (IsExecDue file listed before now) → IfOk r (λ a. Gets a out out' diag diag' out_failed diag_failed result) → OnErr r (GivesUp out out' diag diag' result) → Ends words listed before now out out' diag diag' out_failed diag_failed result
+exec-ends always words file listed before now out out' diag diag' out_failed diag_failed (Ok a) result x d g m = record { answer = a; due = exec-due words file listed before now a x d; given = g }
+exec-ends always words file listed before now out out' diag diag' out_failed diag_failed (Err z) result x d g m =
     let s = some-due always file listed before now in
-    record { answer = s.0; due = exec-due words file listed before now s.0 x s.1; given = gives-up s.0 out out' diag diag' failed result m }
+    record { answer = s.0; due = exec-due words file listed before now s.0 x s.1; given = gives-up s.0 out out' diag diag' out_failed diag_failed result m }
+
+-- ---- words and files have one answer
+
+one-file : (words : List (List ℕ)) (file other : List ℕ) → MeansExec words file → MeansExec words other → file ≡ other
+one-file (command ∷ word ∷ []) file other m n = m.2 ∙ sym n.2
+one-file [] file other m n = absurd m
+one-file (command ∷ []) file other m n = absurd m
+one-file (command ∷ word ∷ third ∷ rest) file other m n = absurd m
+
+one-exec : (file : List ℕ) (o : Option (List ℕ)) (a b : Answer) → IsExecOf file o a → IsExecOf file o b → a ≡ b
+one-exec file None a b x y = x ∙ sym y
+one-exec file (Some text) a b x y = one-run file text a b x y
+
+pub one-answer : HasOneAnswer
+one-answer words files a b (no_command u e) (no_command v f) = e ∙ sym f
+one-answer words files a b (no_command u e) (exec file m x) = absurd (u file m)
+one-answer words files a b (exec file m x) (no_command u e) = absurd (u file m)
+one-answer words files a b (exec file m x) (exec other n y) =
+    let s : other ≡ file = one-file words other file n m in
+    one-exec file (file_named file files) a b x (subst (λ f. IsExecOf f (file_named f files) b) s y)
+
+pub usage-answered : UsageHasAnswer
+usage-answered words files u = (usage, no_command u refl)
+
+pub exec-answered : ExecHasAnswer
+exec-answered words files file m = let x = some-exec always_one file (file_named file files) in (x.0, exec file m x.1)

@@ -26,18 +26,19 @@ pub data IsExecDue (file : List ℕ) (listed : Option Listing) (before now : ℕ
 abbrev pub GetsPrefix : Option (List ℕ) → Option (List ℕ) → List ℕ → Type 0
 GetsPrefix before after bytes = (n : ℕ) × (n ≤ length bytes) × (after ≡ appended before (take n bytes))
 
--- What two sinks get of an answer, and the status that tells it: all of it, or prefixes and the cause. `failed` says that
--- a count of faults rose.
-pub data Gets (answer : Answer) (out out_after diag diag_after : Option (List ℕ)) (failed : Type 0) (result : Status) : Type 0 where
-  whole : result ≡ answer.status → out_after ≡ appended out answer.out → diag_after ≡ appended diag answer.diag → Gets answer out out_after diag diag_after failed result
-  cut : result ≡ WriteFault → failed → GetsPrefix out out_after answer.out → GetsPrefix diag diag_after answer.diag → Gets answer out out_after diag diag_after failed result
-  no_memory : result ≡ Memory → GetsPrefix out out_after answer.out → GetsPrefix diag diag_after answer.diag → Gets answer out out_after diag diag_after failed result
+-- What two sinks get of an answer, first one and then the other, and the status that tells it: all of it, or a prefix and
+-- the cause. `out_failed` and `diag_failed` say that a sink's count of faults rose.
+pub data Gets (answer : Answer) (out out_after diag diag_after : Option (List ℕ)) (out_failed diag_failed : Type 0) (result : Status) : Type 0 where
+  whole : result ≡ answer.status → out_after ≡ appended out answer.out → diag_after ≡ appended diag answer.diag → Gets answer out out_after diag diag_after out_failed diag_failed result
+  out_cut : result ≡ WriteFault → out_failed → GetsPrefix out out_after answer.out → diag_after ≡ diag → Gets answer out out_after diag diag_after out_failed diag_failed result
+  diag_cut : result ≡ WriteFault → diag_failed → out_after ≡ appended out answer.out → GetsPrefix diag diag_after answer.diag → Gets answer out out_after diag diag_after out_failed diag_failed result
+  no_memory : result ≡ Memory → GetsPrefix out out_after answer.out → GetsPrefix diag diag_after answer.diag → Gets answer out out_after diag diag_after out_failed diag_failed result
 
 -- The call ends by some answer that is due.
-pub record Ends (words : List (List ℕ)) (listed : Option Listing) (before now : ℕ) (out out_after diag diag_after : Option (List ℕ)) (failed : Type 0) (result : Status) : Type 0 where
+pub record Ends (words : List (List ℕ)) (listed : Option Listing) (before now : ℕ) (out out_after diag diag_after : Option (List ℕ)) (out_failed diag_failed : Type 0) (result : Status) : Type 0 where
   pub answer : Answer
   pub due : IsDue words listed before now answer
-  pub given : Gets answer out out_after diag diag_after failed result
+  pub given : Gets answer out out_after diag diag_after out_failed diag_failed result
 
 -- the call has no memory and writes nothing
 pub record GivesUp (out out_after diag diag_after : Option (List ℕ)) (result : Status) : Type 0 where

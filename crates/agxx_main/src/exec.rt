@@ -69,6 +69,7 @@ fn answer_text(alloc: Global, file: &Text, text: &Text) -> Result<Answer, Memory
 pub fn exec<F: Files>(alloc: Global, file: &Text, files: &mut F) -> Result<Answer, Memory>
     ensures due { IfOk result (λ answer. IsExecDue file.now (F.listed files.old) (F.faults files.old) (F.faults files.new) answer) }
     ensures listed { F.listed files.new ≡ F.listed files.old }
+    ensures later { F.faults files.old ≤ F.faults files.new }
 {
     match read_whole(alloc, files, file, LARGEST_PROGRAM) {
         Ok(text) => answer_text(alloc, file, &text),

@@ -90,22 +90,34 @@ fn other_programs_are_refused(rt: HostRuntime) -> Result<(), Fail> {
     Ok(())
 }
 
+// The sum, with blanks behind it up to a size.
 #[test]
 fn a_file_above_its_limit_is_refused(rt: HostRuntime) -> Result<(), Fail> {
     let alloc = rt.alloc();
     let words = words_of(alloc, &[b"exec", b"a.cc"])?;
-    for (bytes, line) in [
-        (65_537, b"a.cc:1:1: U1: form not built\n".as_slice()),
-        (16_777_217, b"a.cc:1:1: S1: file too large\n"),
+    let unbuilt = b"a.cc:1:1: U1: form not built\n".as_slice();
+    for (bytes, status, line) in [
+        (65_536, Status::Done, b"ended 0\n".as_slice()),
+        (65_537, Status::Refused, unbuilt),
+        (16_777_216, Status::Refused, unbuilt),
+        (
+            16_777_217,
+            Status::Refused,
+            b"a.cc:1:1: S1: file too large\n",
+        ),
     ] {
         let mut files = MemFiles::new(alloc);
-        let blanks = vec![in alloc; b' '; bytes]?;
-        files.add(Text::from_bytes(alloc, b"a.cc")?, Text::from_vec(blanks))?;
+        let mut text = vec![in alloc; b' '; bytes]?;
+        if SUM.len() <= text.len() {
+            text[..SUM.len()].copy_from_slice(SUM);
+        }
+        files.add(Text::from_bytes(alloc, b"a.cc")?, Text::from_vec(text))?;
         let mut out = MemSink::new(alloc, 10)?;
         let mut diag = MemSink::new(alloc, 100)?;
-        let status = agxx(alloc, &words, &mut files, &mut out, &mut diag);
-        assert_eq!(rt; status, Status::Refused);
-        assert_eq!(rt; out.bytes(), b"".as_slice());
+        assert_eq!(rt;
+            agxx(alloc, &words, &mut files, &mut out, &mut diag),
+            status
+        );
         assert_eq!(rt; diag.bytes(), line);
     }
     Ok(())
@@ -115,7 +127,8 @@ fn a_file_above_its_limit_is_refused(rt: HostRuntime) -> Result<(), Fail> {
 fn other_words_are_a_usage_fault(rt: HostRuntime) -> Result<(), Fail> {
     let usage =
         b"usage: agxx weave CC AH.. | exec CC [PLAN] | run PLAN CC AH.. | source PLAN CC AH.. | points CC AH.. | demo N\n".as_slice();
-    let long = [b'a'; 253];
+    let mut long = [b'a'; 256];
+    long[253..].copy_from_slice(b".cc");
     for words in [
         [].as_slice(),
         &[b"weave".as_slice()],

@@ -1,8 +1,9 @@
 //! The top call: all that the program does.
 
-ghost use Rattle.std.specs.Prelude.{◌≡◌, ◌⊎◌, IfOk, OnErr};
+ghost use Rattle.std.specs.Prelude.{◌≡◌, ◌≤◌, IfOk, OnErr};
 ghost use Rattle.agxx_base.specs.Causes.{Rose};
 ghost use Rattle.agxx_main.specs.Outcome.{Ends, Gets, GivesUp};
+ghost use Rattle.agxx_main.specs.Laws.{HasOneAnswer, UsageHasAnswer, ExecHasAnswer};
 
 use crate::answer::Answer;
 use crate::exec::exec;
@@ -12,7 +13,9 @@ use std::alloc::Global;
 
 /// Writes an answer to standard output and then to standard error, or tells that memory was refused.
 fn deliver<O: Sink, E: Sink>(answer: Result<Answer, Memory>, out: &mut O, diag: &mut E) -> Status
-    ensures given { IfOk answer (λ a. Gets a (O.taken out.old) (O.taken out.new) (E.taken diag.old) (E.taken diag.new) (Rose (O.faults out.old) (O.faults out.new) ⊎ Rose (E.faults diag.old) (E.faults diag.new)) result) }
+    ensures given { IfOk answer (λ a. Gets a (O.taken out.old) (O.taken out.new) (E.taken diag.old) (E.taken diag.new) (Rose (O.faults out.old) (O.faults out.new)) (Rose (E.faults diag.old) (E.faults diag.new)) result) }
+    ensures out_later { O.faults out.old ≤ O.faults out.new }
+    ensures diag_later { E.faults diag.old ≤ E.faults diag.new }
     ensures memory { OnErr answer (GivesUp (O.taken out.old) (O.taken out.new) (E.taken diag.old) (E.taken diag.new) result) }
 {
     let Ok(answer) = answer else {
@@ -37,11 +40,22 @@ pub fn agxx<F: Files, O: Sink, E: Sink>(
     diag: &mut E,
 ) -> Status
     ensures ends { Ends words.now (F.listed files.old) (F.faults files.old) (F.faults files.new) (O.taken out.old) (O.taken out.new) (E.taken diag.old) (E.taken diag.new)
-        (Rose (O.faults out.old) (O.faults out.new) ⊎ Rose (E.faults diag.old) (E.faults diag.new)) result }
+        (Rose (O.faults out.old) (O.faults out.new)) (Rose (E.faults diag.old) (E.faults diag.new)) result }
     ensures listed { F.listed files.new ≡ F.listed files.old }
+    // No count of faults falls.
+    ensures files_later { F.faults files.old ≤ F.faults files.new }
+    ensures out_later { O.faults out.old ≤ O.faults out.new }
+    ensures diag_later { E.faults diag.old ≤ E.faults diag.new }
 {
     match exec_file(words) {
         None => deliver(Answer::usage(alloc), out, diag),
         Some(file) => deliver(exec(alloc, file, files), out, diag),
     }
 }
+
+/// The answer for words and files is one, and there is one for all words. The function does nothing: it carries the law.
+pub fn answers_are_determined()
+    ensures one { HasOneAnswer }
+    ensures usage { UsageHasAnswer }
+    ensures exec { ExecHasAnswer }
+{}

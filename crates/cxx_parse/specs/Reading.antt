@@ -1,4 +1,4 @@
--- The statements that tokens are read as, from the last token to the first.
+-- The statements that tokens are read as: what is read at a token is put before what is read behind it.
 use Rattle.std.specs.Prelude.{◌≡◌, ◌≤◌, ◌<◌, length, ℕ, zero, suc, List, [], ◌∷◌, ◌++◌, Option, Some, None, option_map, option_and_then, IfSome}
 use Rattle.cxx_parse.specs.declared.first_form.Shape.{Shape}
 use Rattle.cxx_parse.specs.declared.first_form.Shape.TheVariants as shape

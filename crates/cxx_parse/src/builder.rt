@@ -1,8 +1,8 @@
 //! The tree of a program of the first form.
 
-ghost use Rattle.std.specs.Prelude.{◌≡◌, ◌+◌, ◌∷◌, [], sum, map, IfOk};
-ghost use Rattle.cxx_parse.specs.Shown.{value_of};
-ghost use Rattle.cxx_parse.specs.TreeOf.{IsOperand, AreOperands, IsStatement, AreStatements, IsReturn, IsBlock, IsMain, IsProgramOf};
+ghost use Rattle.std.specs.Prelude.{◌≡◌, ◌∷◌, [], Some, map, IfOk};
+ghost use Rattle.cxx_parse.specs.TreeOf as tree_of;
+ghost use Rattle.cxx_parse.specs.TreeOf.{literals_of, added_to, IsOperand, AreOperands, IsStatement, AreStatements, IsReturn, IsBlock, IsMain, IsProgramOf};
 ghost use Rattle.cxx_tree.specs.ExprTree.{expr_tree};
 ghost use Rattle.cxx_tree.specs.StmtTree.{stmt_tree, printed_tree, block_tree};
 ghost use Rattle.cxx_tree.specs.ProgramTree.{program_tree, decl_tree};
@@ -16,6 +16,15 @@ use cxx_tree::{
 };
 use sqlite_items::{Boxed, Items};
 use std::alloc::Global;
+
+fn int_literal(value: u64) -> Number
+    ensures { result ≡ tree_of.int_literal value }
+{
+    Number {
+        bits: value,
+        kind: NumKind::I32,
+    }
+}
 
 /// Makes the nodes of the tree from statements that were read, with the places of their tokens.
 #[derive(Drop)]
@@ -55,31 +64,27 @@ impl<'t> Builder<'t> {
     }
 
     fn literal(&mut self, value: u64) -> Expr
-        ensures { value_of (expr_tree result) ≡ value }
+        ensures { literals_of (expr_tree result) ≡ Some (tree_of.int_literal value ∷ []) }
     {
-        let number = Number {
-            bits: value,
-            kind: NumKind::I32,
-        };
-        Expr::Lit(self.node(), number)
+        Expr::Lit(self.node(), int_literal(value))
     }
 
     fn added(&mut self, left: Expr, value: u64) -> Result<Expr, Memory>
-        ensures { IfOk result (λ e. value_of (expr_tree e) ≡ value_of (expr_tree left) + value) }
+        ensures { IfOk result (λ e. literals_of (expr_tree e) ≡ added_to BinOp.Add (literals_of (expr_tree left)) (tree_of.int_literal value)) }
     {
         let node = left.node();
         let sign = Placed {
             at: self.place(),
             item: BinOp::Add,
         };
-        let right = self.literal(value);
+        let right = Expr::Lit(self.node(), int_literal(value));
         let left = Boxed::new(self.alloc, left)?;
         let right = Boxed::new(self.alloc, right)?;
         Ok(Expr::Binary(node, sign, left, right))
     }
 
     fn total(&mut self, first: u64, more: &[u64]) -> Result<Expr, Memory>
-        ensures { IfOk result (λ e. value_of (expr_tree e) ≡ first + sum more.now) }
+        ensures { IfOk result (λ e. literals_of (expr_tree e) ≡ Some (map tree_of.int_literal (first ∷ more.now))) }
     {
         let mut total = self.literal(first);
         for n in more {
@@ -142,7 +147,7 @@ impl<'t> Builder<'t> {
         ensures { IsReturn (stmt_tree result) }
     {
         let at = self.place();
-        let zero = self.literal(0);
+        let zero = Expr::Lit(self.node(), int_literal(0));
         Stmt::Return(at, Some(zero))
     }
 
@@ -157,7 +162,7 @@ impl<'t> Builder<'t> {
     }
 
     fn main(&mut self, name: NameId, statements: &[ListOf<Operand>]) -> Result<Decl, Memory>
-        ensures { IfOk result (λ made. IsMain (decl_tree made ∷ []) statements.now) }
+        ensures { IfOk result (λ made. IsMain name (decl_tree made ∷ []) statements.now) }
     {
         let result = Placed {
             at: self.place(),
@@ -185,7 +190,7 @@ impl<'t> Builder<'t> {
         name: NameId,
         statements: &[ListOf<Operand>],
     ) -> Result<Program, Memory>
-        ensures { IfOk result (λ made. IsProgramOf (program_tree made) statements.now) }
+        ensures { IfOk result (λ made. IsProgramOf name (program_tree made) statements.now) }
     {
         let at = Place {
             file: self.end.file,

@@ -23,7 +23,7 @@ pub enum Shape {
     Plus,
     Semicolon,
     Return,
-    /// A decimal number from 0 to 9,999 without a suffix.
+    /// A decimal number of kind `int32_t` without a suffix.
     Literal(u64),
     /// A token that no such program has.
     Other,

@@ -22,7 +22,7 @@ pub fn parse_program(
     toks: &Toks,
     mode: Mode,
 ) -> Result<Program, Fault>
-    ensures parsed { IfOk result (λ program. IsParsed (tokens_of toks.now.items) (program_tree program)) }
+    ensures parsed { IfOk result (λ program. IsParsed (tokens_of toks.now.items) names.new (program_tree program)) }
     ensures refused { IfErr result (λ fault. IfRefused fault (IsUnbuilt (tokens_of toks.now.items) toks.now.end)) }
     ensures names { IsLonger names.old names.new }
 {

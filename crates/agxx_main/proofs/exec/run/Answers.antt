@@ -11,11 +11,11 @@ returns-then-bytes-gt-LARGEST_FIRST_FORM c =
     (e ∙ ap (refused c.args.file.now) c.at_beginning.ensures)) c.refused.ensures
 
 pub output_of-requires : goal.output_of-requires
-output_of-requires c = parsed-fits (tokens_of c.args.toks.now.items) (program_tree c.in-Ok.program) c.in-Ok.ensures.parsed
+output_of-requires c = parsed-fits (tokens_of c.args.toks.now.items) c.parse_program.new.names (program_tree c.in-Ok.program) c.in-Ok.ensures.parsed
 
 pub returns-in-Ok : goal.returns-in-Ok
 returns-in-Ok c =
-    if-ok c.ended.result _ _ (λ a e. parsed-runs c.args.file.now c.args.text.now (tokens_of c.args.toks.now.items) c.args.toks.now.end (program_tree c.in-Ok.program) c.in_ok-output_of-in-Ok.field-0 a
+    if-ok c.ended.result _ _ (λ a e. parsed-runs c.args.file.now c.args.text.now (tokens_of c.args.toks.now.items) c.args.toks.now.end c.parse_program.new.names (program_tree c.in-Ok.program) c.in_ok-output_of-in-Ok.field-0 a
     (omega (arith, ap length c.bytes.ensures)) c.requires.tokens c.in-Ok.ensures.parsed c.in_ok-output_of-in-Ok.ensures e) c.ended.ensures
 
 pub returns-in-Err-Refused : goal.returns-in-Err-Refused
