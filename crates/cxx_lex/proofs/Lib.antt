@@ -12,3 +12,4 @@ pub mod Comments
 pub mod Fronts
 pub mod Readings
 pub mod Stepping
+pub mod LargeNumbers

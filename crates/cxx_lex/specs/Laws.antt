@@ -1,9 +1,15 @@
 -- That the tokens of a text are a definition.
-use Rattle.std.specs.Prelude.{◌≡◌, ◌↔◌, ◌⊎◌, ℕ, List}
+use Rattle.std.specs.Prelude.{◌≡◌, ◌↔◌, ◌≤◌, ◌^◌, ◌⊎◌, ℕ, List, Err}
 use Rattle.agxx_base.specs.declared.fault.Refusal.{Refusal}
 use Rattle.agxx_base.specs.declared.kind.Mode.{Mode}
 use Rattle.agxx_base.specs.declared.place.Place.{Place}
 use Rattle.cxx_lex.specs.Tokens.{Token, HasTokens, RefusedAt}
+use Rattle.agxx_base.specs.declared.rule.Rule.TheVariants.{L3}
+use Rattle.cxx_lex.specs.declared.numbers.Base.{Base}
+use Rattle.cxx_lex.specs.declared.numbers.Base.TheVariants.{Decimal, Hexadecimal}
+use Rattle.cxx_lex.specs.declared.numbers.Suffix.{Suffix}
+use Rattle.cxx_lex.specs.declared.numbers.Suffix.TheVariants as suffix
+use Rattle.cxx_lex.specs.Numbers.{number_verdict}
 use Rattle.cxx_lex.specs.Lexed.{lexed, tokens, refused}
 
 abbrev pub HasOneReading : Type 0
@@ -28,3 +34,14 @@ TellsTokens = (mode : Mode) (file : ℕ) (text : List ℕ) (ts : List Token) (en
 
 abbrev pub TellsRefusals : Type 0
 TellsRefusals = (mode : Mode) (file : ℕ) (text : List ℕ) (refusal : Refusal) → (lexed mode file text ≡ refused refusal) ↔ RefusedAt mode file text refusal
+
+-- the least number that is too large: 2^63 for a decimal without `u`, else 2^64
+abbrev pub number_bound : Base → Suffix → ℕ
+number_bound Decimal suffix.Plain = 2 ^ 63
+number_bound Decimal suffix.Ll = 2 ^ 63
+number_bound Decimal suffix.U = 2 ^ 64
+number_bound Decimal suffix.Ull = 2 ^ 64
+number_bound Hexadecimal ending = 2 ^ 64
+
+abbrev pub RefusesLargeNumbers : Type 0
+RefusesLargeNumbers = (base : Base) (value : ℕ) (ending : Suffix) → (number_verdict base value ending ≡ Err L3) ↔ (number_bound base ending ≤ value)

@@ -1,5 +1,5 @@
 -- Numbers.
-use Rattle.std.specs.Prelude.{◌≡◌, ℕ, true, false, if◌then◌else◌, ◌==◌, ◌+◌, ◌-◌, ◌*◌, ◌^◌, nat_lt, nat_le, List, [], ◌∷◌, ◌++◌, fold, codes, Option, Some, None, Result, Ok, Err}
+use Rattle.std.specs.Prelude.{◌≡◌, ℕ, true, false, if◌then◌else◌, ◌==◌, ◌+◌, ◌-◌, ◌*◌, ◌^◌, nat_lt, List, [], ◌∷◌, ◌++◌, fold, codes, Option, Some, None, Result, Ok, Err}
 use Rattle.std.specs.List.{list_all}
 use Rattle.agxx_base.specs.declared.kind.NumKind.{NumKind}
 use Rattle.agxx_base.specs.declared.kind.NumKind.TheVariants as num
@@ -11,11 +11,11 @@ use Rattle.cxx_lex.specs.declared.numbers.Base.{Base}
 use Rattle.cxx_lex.specs.declared.numbers.Base.TheVariants.{Decimal, Hexadecimal}
 use Rattle.cxx_lex.specs.declared.numbers.Suffix.{Suffix}
 use Rattle.cxx_lex.specs.declared.numbers.Suffix.TheVariants as suffix
-use Rattle.cxx_lex.specs.Bytes.{is_digit, is_hexadecimal, is_x}
+use Rattle.cxx_lex.specs.Bytes.{is_within, is_digit, is_hexadecimal, is_x}
 use Rattle.cxx_lex.specs.Words.{entry_of}
 
 abbrev pub digit_value : ℕ → ℕ
-digit_value b = if is_digit b then b - 48 else (if nat_le 97 b then b - 87 else b - 55)
+digit_value b = if is_digit b then b - 48 else (if is_within 97 102 b then b - 97 + 10 else (if is_within 65 70 b then b - 65 + 10 else 0))
 
 -- the number that digits stand for in a base
 abbrev pub in_base : ℕ → List ℕ → ℕ

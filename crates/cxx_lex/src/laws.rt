@@ -1,6 +1,6 @@
 //! Laws of the definitions: the functions do nothing.
 
-ghost use Rattle.cxx_lex.specs.Laws.{HasOneReading, HasOneRefusal, IsNeverBoth, IsAlwaysOne, TellsTokens, TellsRefusals};
+ghost use Rattle.cxx_lex.specs.Laws.{HasOneReading, HasOneRefusal, IsNeverBoth, IsAlwaysOne, TellsTokens, TellsRefusals, RefusesLargeNumbers};
 ghost use Rattle.cxx_lex.specs.Strings.{ReadsQuoted};
 
 /// A text has one list of tokens and one end, or one refusal, and never both. `lexed` tells which.
@@ -16,4 +16,9 @@ pub fn texts_are_lexed_in_one_way()
 /// `string_value` of a literal is what the literal was made of.
 pub fn literals_are_read()
     ensures { ReadsQuoted }
+{}
+
+/// A number is refused exactly where it is above 2^64 - 1, or a decimal without `u` above 2^63 - 1.
+pub fn large_numbers_are_refused()
+    ensures { RefusesLargeNumbers }
 {}

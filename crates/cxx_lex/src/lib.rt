@@ -22,7 +22,7 @@ mod toks;
 mod words;
 
 pub use all::lex_all;
-pub use laws::{literals_are_read, texts_are_lexed_in_one_way};
+pub use laws::{large_numbers_are_refused, literals_are_read, texts_are_lexed_in_one_way};
 pub use lexer::{LexStep, Lexer};
 pub use literals::string_bytes;
 pub use tok::{Tok, TokKind};

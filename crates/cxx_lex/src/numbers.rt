@@ -59,16 +59,15 @@ fn digits_len(text: &[u8]) -> usize
 }
 
 fn digit_value(b: u8) -> u64
-    ensures value { result ≡ numbers.digit_value b }
-    ensures small { result < 256 }
+    ensures { result ≡ numbers.digit_value b }
 {
-    if b'0' <= b && b <= b'9' {
-        return (b - b'0') as u64;
-    }
-    if b'a' <= b {
-        return (b - b'a') as u64 + 10;
-    }
-    if b'7' <= b { (b - b'7') as u64 } else { 0 }
+    let value = match b {
+        b'0'..=b'9' => b - b'0',
+        b'a'..=b'f' => b - b'a' + 10,
+        b'A'..=b'F' => b - b'A' + 10,
+        _ => 0,
+    };
+    value as u64
 }
 
 /// The value with one more digit, where it is below 2^64.

@@ -56,15 +56,9 @@ pub fn string_fault(text: &[u8]) -> Option<StringFault>
     match text {
         [] | [b'\n', ..] | [b'\\'] | [b'\\', b'\n', ..] => Some(StringFault::Unclosed),
         [b'"', ..] => None,
-        [b'\\', c, ..] => if is_escape(*c) {
-            None
-        } else {
-            Some(StringFault::BadByte)
-        },
-        [b, ..] => if is_plain(*b) {
-            None
-        } else {
-            Some(StringFault::BadByte)
-        },
+        [b'\\', c, ..] if is_escape(*c) => None,
+        [b'\\', ..] => Some(StringFault::BadByte),
+        [b, ..] if is_plain(*b) => None,
+        [_, ..] => Some(StringFault::BadByte),
     }
 }
