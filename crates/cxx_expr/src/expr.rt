@@ -63,7 +63,7 @@ impl<'w> Within<'w> {
             return self.unary(depth);
         }
         let mut first = self.level(depth, level - 1)?;
-        while let Some(op) = self.words.operator(level) {
+        while let Some(op) = self.operator(level) {
             self.take_operator()?;
             let second = self.level(depth, level - 1)?;
             first = joined(self.words.alloc, op, first, second)?;
@@ -100,7 +100,7 @@ impl<'w> Within<'w> {
         };
         match next.item {
             Word::Number(number) => {
-                self.words.advance();
+                self.advance();
                 Ok(Expr::Lit(unnumbered(next.at), number))
             }
             Word::Name(_) => self.named(depth, next.at),
@@ -119,23 +119,23 @@ impl<'w> Within<'w> {
     {
         match keyword {
             Keyword::True => {
-                self.words.advance();
+                self.advance();
                 Ok(Expr::Flag(unnumbered(at), true))
             }
             Keyword::False => {
-                self.words.advance();
+                self.advance();
                 Ok(Expr::Flag(unnumbered(at), false))
             }
             Keyword::Nullptr => {
-                self.words.advance();
+                self.advance();
                 Ok(Expr::Null(unnumbered(at)))
             }
             Keyword::This => {
-                self.words.advance();
+                self.advance();
                 self.own(depth, at)
             }
             Keyword::New => {
-                self.words.advance();
+                self.advance();
                 self.created(depth, at)
             }
             other => self.converted(depth, at, number_type(other)),
@@ -152,7 +152,7 @@ impl<'w> Within<'w> {
         let Some(type_name) = type_name else {
             return Err(Stop::Syntax);
         };
-        self.words.advance();
+        self.advance();
         let operand = self.enclosed(depth)?;
         Ok(Expr::Cast(
             unnumbered(at),
@@ -179,10 +179,10 @@ impl<'w> Within<'w> {
         ensures reads { Reads expr_tree (grammar.own (inner_at depth) at self.old) result self.new }
         ensures left { length self.new.words ≤ length self.old.words }
     {
-        if !self.words.sees(Sign::Arrow) {
+        if !self.sees(Sign::Arrow) {
             return Ok(Expr::This(unnumbered(at)));
         }
-        self.words.advance();
+        self.advance();
         let target = self.words.selected(Base::This)?;
         self.called(depth, unnumbered(at), target)
     }
@@ -194,7 +194,7 @@ impl<'w> Within<'w> {
         ensures reads { Reads expr_tree (grammar.called (inner_at depth) node callee self.old) result self.new }
         ensures left { length self.new.words ≤ length self.old.words }
     {
-        if !self.words.sees(Sign::OpenParen) {
+        if !self.sees(Sign::OpenParen) {
             return Ok(Expr::Left(left_of(node, callee)));
         }
         let arguments = self.arguments(depth)?;
@@ -223,7 +223,7 @@ impl<'w> Within<'w> {
         ensures reads { Reads expr_tree (grammar.created_with (inner_at depth) at class self.old) result self.new }
         ensures left { length self.new.words ≤ length self.old.words }
     {
-        if !self.words.sees(Sign::OpenParen) {
+        if !self.sees(Sign::OpenParen) {
             return Ok(Expr::New(unnumbered(at), class, None));
         }
         let arguments = self.arguments(depth)?;
@@ -250,15 +250,15 @@ impl<'w> Within<'w> {
         ensures reads { Reads expr_tree (grammar.enclosed (inner_at depth) self.old) result self.new }
         ensures left { length self.new.words ≤ length self.old.words }
     {
-        if !self.words.sees(Sign::OpenParen) {
+        if !self.sees(Sign::OpenParen) {
             return Err(Stop::Syntax);
         }
         if depth == 0 {
             return Err(Stop::Deep);
         }
-        self.words.advance();
+        self.advance();
         let inside = self.expr(depth - 1)?;
-        self.words.expect(Sign::CloseParen)?;
+        self.expect(Sign::CloseParen)?;
         Ok(inside)
     }
 
@@ -272,7 +272,7 @@ impl<'w> Within<'w> {
         if depth == 0 {
             return Err(Stop::Deep);
         }
-        self.words.advance();
+        self.advance();
         self.items(depth - 1)
     }
 
@@ -283,19 +283,19 @@ impl<'w> Within<'w> {
         ensures left { length self.new.words ≤ length self.old.words }
     {
         let mut found = Items::new(self.words.alloc);
-        if self.words.sees(Sign::CloseParen) {
-            self.words.advance();
+        if self.sees(Sign::CloseParen) {
+            self.advance();
             return Ok(found);
         }
         'items: loop {
             let item = self.expr(depth)?;
             found.push(item)?;
-            if !self.words.sees(Sign::Comma) {
+            if !self.sees(Sign::Comma) {
                 break;
             }
-            self.words.advance();
+            self.advance();
         }
-        self.words.expect(Sign::CloseParen)?;
+        self.expect(Sign::CloseParen)?;
         Ok(found)
     }
 }

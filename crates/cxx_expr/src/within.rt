@@ -1,14 +1,17 @@
 //! A parser within a full expression, which counts operators.
 
-ghost use Rattle.std.specs.Prelude.{◌≡◌, ◌<◌, ◌≤◌, length, OnOk};
+ghost use Rattle.std.specs.Prelude.{◌≡◌, ◌≤◌, ◌-◌, length};
 ghost use Rattle.cxx_expr.specs.Descent as grammar;
+ghost use Rattle.cxx_expr.specs.Outcome as outcome;
 ghost use Rattle.cxx_expr.specs.Outcome.{Reads};
+ghost use Rattle.cxx_expr.specs.Tokens as tokens;
 ghost use Rattle.cxx_expr.specs.Within as spec;
 
 use crate::operator::{binary_operator, level_of, unary_operator};
 use crate::parser::Parser;
 use crate::stop::Stop;
 use crate::word::Word;
+use agxx_base::Sign;
 use cxx_tree::{BinOp, Placed, UnOp};
 use std::marker::Model;
 
@@ -60,6 +63,36 @@ impl<'w> Parser<'w> {
 }
 
 impl<'w> Within<'w> {
+    /// Whether this sign comes next.
+    pub(crate) fn sees(&self, sign: Sign) -> bool
+        ensures { result ≡ tokens.sees sign self.now.words }
+    {
+        self.words.sees(sign)
+    }
+
+    /// Passes the next word, which is no operator.
+    pub(crate) fn advance(&mut self)
+        ensures after { self.new ≡ spec.advanced self.old }
+        ensures shorter { length self.new.words ≡ length self.old.words - 1 }
+    {
+        self.words.advance();
+    }
+
+    /// Passes this sign, which has to come next.
+    pub(crate) fn expect(&mut self, sign: Sign) -> Result<(), Stop>
+        ensures reads { Reads (λ u. u) (spec.on_words (outcome.expect sign) self.old) result self.new }
+        ensures left { length self.new.words ≤ length self.old.words }
+    {
+        self.words.expect(sign)
+    }
+
+    /// The operator of this level that comes next.
+    pub(crate) fn operator(&self, level: u8) -> Option<Placed<BinOp>>
+        ensures { result ≡ grammar.operator level self.now.words }
+    {
+        self.words.operator(level)
+    }
+
     /// Passes the operator that comes next, if there may be one more.
     pub(crate) fn take_operator(&mut self) -> Result<(), Stop>
         ensures reads { Reads (λ u. u) (spec.operator_taken self.old) result self.new }
