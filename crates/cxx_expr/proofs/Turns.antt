@@ -1,17 +1,22 @@
 -- One turn of each loop, and each rule that goes by cases, by its definition.
 use Rattle.std.proofs.Common.{◌≡◌, ℕ, zero, suc, ◌+◌, ◌-◌, ◌≤◌, ◌<◌, Bool, true, false, cond, List, [], ◌∷◌, ◌++◌, length, Option, Some, None, refl, sym, ap, ◌∙◌, arith, append_assoc, subst, map}
+use Rattle.agxx_base.specs.declared.place.Place.{Place}
+use Rattle.agxx_base.specs.declared.ids.NameId.{NameId}
 use Rattle.agxx_base.specs.declared.vocabulary.Sign.{Sign}
 use Rattle.agxx_base.specs.declared.vocabulary.Sign.TheVariants as sg
+use Rattle.cxx_tree.specs.declared.node.Node.{Node}
 use Rattle.cxx_tree.specs.declared.node.Placed.{Placed}
 use Rattle.cxx_tree.specs.declared.operator.BinOp.{BinOp}
 use Rattle.cxx_tree.specs.declared.operator.UnOp.{UnOp}
-use Rattle.cxx_tree.specs.ExprTree.{ExprTree}
+use Rattle.cxx_tree.specs.declared.expr.Callee.{Callee}
+use Rattle.cxx_tree.specs.ExprTree.{ExprTree, call, calls, new_with, listed_exprs}
 use Rattle.cxx_expr.specs.declared.stop.Stop.{Stop}
 use Rattle.cxx_expr.specs.declared.stop.Stop.TheVariants.{Syntax}
 use Rattle.cxx_expr.specs.Tokens.{Tokens, sees, after}
 use Rattle.cxx_expr.specs.Outcome.{Outcome, done, failed, Parse, and_then, expect}
+use Rattle.cxx_expr.specs.Lefts.{node_at}
 use Rattle.cxx_expr.specs.Within.{Within, on_words, advanced, operator_taken, operator_taken_by}
-use Rattle.cxx_expr.specs.Descent.{operator, prefix_operator, joined, go_on, chain, front_of, closed, items_more, items_from, inner_at, operated, primary, unary_from, unary, level, expr}
+use Rattle.cxx_expr.specs.Descent.{operator, prefix_operator, joined, go_on, chain, front_of, closed, items_more, items_from, inner_at, enclosed, arguments, called, created_with, operated, primary, unary_from, unary, level, expr}
 
 pub length-after : (ts : Tokens) → length (after ts) ≡ length ts - 1
 length-after [] = omega arith
@@ -101,25 +106,44 @@ level-step inner (suc l) s first rest h e =
     let e' : level inner l s ≡ done first rest = subst (λ n. level inner n s ≡ done first rest) down e in
     subst (λ n. level inner (suc l) s ≡ chain (λ s. level inner n s) (suc l) (length rest.words) first rest) (sym down) (level-suc inner l s first rest e')
 
-unary_from-primary : (inner : Option (Parse Within ExprTree)) (n : ℕ) (ts : Tokens) → None ≡ prefix_operator ts → unary_from inner n ts ≡ primary inner (record { words = ts; operators = n })
-unfolding unary_from
-unary_from-primary inner zero ts e = rw (← e) refl
-unary_from-primary inner (suc n) ts e = rw (← e) refl
+by_prefix : (inner : Option (Parse Within ExprTree)) (n : ℕ) (ts : Tokens) → Option (Placed UnOp) → Outcome Within ExprTree
+by_prefix inner n ts None = primary inner (record { words = ts; operators = n })
+by_prefix inner n ts (Some o) = and_then (operator_taken_by n ts) (λ u s. operated inner o (unary inner s))
+
+unary_from-is : (inner : Option (Parse Within ExprTree)) (n : ℕ) (ts : Tokens) (o : Option (Placed UnOp)) → o ≡ prefix_operator ts → unary_from inner n ts ≡ by_prefix inner n ts o
+unfolding unary_from unary by_prefix
+unary_from-is inner zero ts None e = rw (unary_from, ← e) refl
+unary_from-is inner zero ts (Some o) e = rw (unary_from, ← e) refl
+unary_from-is inner (suc n) ts None e = rw (unary_from, ← e) refl
+unary_from-is inner (suc n) ts (Some o) e = rw (unary_from, ← e) refl
 
 pub unary-primary : (inner : Option (Parse Within ExprTree)) (s : Within) → None ≡ prefix_operator s.words → unary inner s ≡ primary inner s
-unfolding unary
-unary-primary inner s e = unary_from-primary inner s.operators s.words e
-
-unary_from-prefix : (inner : Option (Parse Within ExprTree)) (n : ℕ) (ts : Tokens) (o : Placed UnOp) → Some o ≡ prefix_operator ts
-    → unary_from inner n ts ≡ and_then (operator_taken_by n ts) (λ u s. operated o (unary_from inner s.operators s.words))
-unfolding unary_from
-unary_from-prefix inner zero ts o e = rw (← e) refl
-unary_from-prefix inner (suc n) ts o e = rw (← e) refl
+unfolding unary by_prefix
+unary-primary inner s e = unary_from-is inner s.operators s.words None e
 
 pub unary-prefix : (inner : Option (Parse Within ExprTree)) (s : Within) (o : Placed UnOp) → Some o ≡ prefix_operator s.words
-    → unary inner s ≡ and_then (operator_taken s) (λ u s. operated o (unary inner s))
-unfolding unary
-unary-prefix inner s o e = unary_from-prefix inner s.operators s.words o e
+    → unary inner s ≡ and_then (operator_taken s) (λ u s. operated inner o (unary inner s))
+unfolding unary by_prefix
+unary-prefix inner s o e = unary_from-is inner s.operators s.words (Some o) e
+
+pub enclosed-closes : (depth : ℕ) (s next rest : Within) (x : ExprTree) → 0 < depth → sees sg.OpenParen s.words ≡ true → next ≡ advanced s → expr (depth - 1) next ≡ done x rest
+    → enclosed (inner_at depth) s ≡ closed x rest
+unfolding enclosed
+enclosed-closes zero s next rest x h e a f = absurd (omega arith)
+enclosed-closes (suc depth) s next rest x h e a f =
+    let down : suc depth - 1 ≡ depth = omega arith in
+    let f' : expr depth next ≡ done x rest = subst (λ n. expr n next ≡ done x rest) down f in
+    rw (e, ← a, f') refl
+
+pub called-call : (inner : Option (Parse Within ExprTree)) (n : Node) (callee : Callee) (s rest : Within) (xs : List ExprTree) → sees sg.OpenParen s.words ≡ true → arguments inner s ≡ done xs rest
+    → called inner n callee s ≡ done (call (calls n callee (listed_exprs xs))) rest
+unfolding called
+called-call inner n callee s rest xs e f = rw (e, f) refl
+
+pub created_with-arguments : (inner : Option (Parse Within ExprTree)) (at : Place) (class : Placed NameId) (s rest : Within) (xs : List ExprTree) → sees sg.OpenParen s.words ≡ true → arguments inner s ≡ done xs rest
+    → created_with inner at class s ≡ done (new_with (node_at at) class (listed_exprs xs)) rest
+unfolding created_with
+created_with-arguments inner at class s rest xs e f = rw (e, f) refl
 
 pub map-push : {A B : Type 0} (f : A → B) (xs : List A) (x : A) (ys : List A) → ys ≡ xs ++ x ∷ [] → map f xs ++ f x ∷ [] ≡ map f ys
 map-push f xs x ys e = sym (go xs) ∙ ap (map f) (sym e)

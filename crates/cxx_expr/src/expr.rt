@@ -77,7 +77,7 @@ impl<'w> Within<'w> {
         ensures reads { Reads expr_tree (grammar.unary (inner_at depth) self.old) result self.new }
         ensures left { length self.new.words ≤ length self.old.words }
     {
-        let Some(op) = self.words.prefix_operator() else {
+        let Some(op) = self.prefix_operator() else {
             return self.primary(depth);
         };
         self.take_operator()?;

@@ -93,6 +93,13 @@ impl<'w> Within<'w> {
         self.words.operator(level)
     }
 
+    /// The operator before an operand that comes next.
+    pub(crate) fn prefix_operator(&self) -> Option<Placed<UnOp>>
+        ensures { result ≡ grammar.prefix_operator self.now.words }
+    {
+        self.words.prefix_operator()
+    }
+
     /// Passes the operator that comes next, if there may be one more.
     pub(crate) fn take_operator(&mut self) -> Result<(), Stop>
         ensures reads { Reads (λ u. u) (spec.operator_taken self.old) result self.new }
