@@ -5,3 +5,4 @@ pub mod Outcome
 pub mod Lefts
 pub mod Within
 pub mod Descent
+pub mod Full

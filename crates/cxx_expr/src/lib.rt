@@ -7,6 +7,7 @@
 #![tactic(auto)]
 
 mod expr;
+mod full;
 mod operator;
 mod parser;
 mod stop;
