@@ -6,3 +6,8 @@ pub mod Places
 pub mod Words
 pub mod Spelling
 pub mod AspectSpelling
+pub mod Limits
+pub mod Fits
+pub mod AspectFits
+pub mod Blank
+pub mod Same

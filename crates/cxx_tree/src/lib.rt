@@ -9,6 +9,7 @@
 #![tactic(auto)]
 
 mod aspect;
+mod equality;
 mod expr;
 mod node;
 mod operator;
@@ -19,6 +20,7 @@ pub use aspect::{
     Advice, ArgsEntry, Aspect, AspectItem, Aspects, Moment, Order, Pointcut, PointcutDecl,
     PointcutFunction, PointcutOp, Slice, SliceItem,
 };
+pub use equality::same;
 pub use expr::{Base, Call, Callee, Expr, Left, Ref, Selector};
 pub use node::{Name, Node, Number, Placed, Quoted};
 pub use operator::{BinOp, UnOp};
