@@ -1,3 +1,11 @@
 pub mod Signs
 pub mod Turns
 pub mod Views
+pub mod Good
+pub mod States
+pub mod Names
+pub mod Operators
+pub mod Sorts
+pub mod Arguments
+pub mod Chains
+pub mod Laws

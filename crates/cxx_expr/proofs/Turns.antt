@@ -10,6 +10,7 @@ use Rattle.cxx_tree.specs.declared.operator.BinOp.{BinOp}
 use Rattle.cxx_tree.specs.declared.operator.UnOp.{UnOp}
 use Rattle.cxx_tree.specs.declared.expr.Callee.{Callee}
 use Rattle.cxx_tree.specs.ExprTree.{ExprTree, call, calls, new_with, listed_exprs}
+use Rattle.cxx_tree.specs.Fits.{expr_level}
 use Rattle.cxx_expr.specs.declared.stop.Stop.{Stop}
 use Rattle.cxx_expr.specs.declared.stop.Stop.TheVariants.{Syntax}
 use Rattle.cxx_expr.specs.Tokens.{Tokens, sees, after}
@@ -88,7 +89,7 @@ pub front_of-front_of : {S A : Type 0} (xs ys : List A) (o : Outcome S (List A))
 front_of-front_of xs ys (done zs rest) = ap (λ q. done q rest) (sym (append_assoc xs ys zs))
 front_of-front_of xs ys (failed why rest) = refl
 
-pub expr-is : (depth : ℕ) (s : Within) → expr depth s ≡ level (inner_at depth) 10 s
+pub expr-is : (depth : ℕ) (s : Within) → expr depth s ≡ level (inner_at depth) expr_level s
 unfolding expr
 expr-is zero s = refl
 expr-is (suc depth) s = refl
@@ -106,24 +107,28 @@ level-step inner (suc l) s first rest h e =
     let e' : level inner l s ≡ done first rest = subst (λ n. level inner n s ≡ done first rest) down e in
     subst (λ n. level inner (suc l) s ≡ chain (λ s. level inner n s) (suc l) (length rest.words) first rest) (sym down) (level-suc inner l s first rest e')
 
-by_prefix : (inner : Option (Parse Within ExprTree)) (n : ℕ) (ts : Tokens) → Option (Placed UnOp) → Outcome Within ExprTree
+abbrev pub by_prefix : (inner : Option (Parse Within ExprTree)) (n : ℕ) (ts : Tokens) → Option (Placed UnOp) → Outcome Within ExprTree
 by_prefix inner n ts None = primary inner (record { words = ts; operators = n })
-by_prefix inner n ts (Some o) = and_then (operator_taken_by n ts) (λ u s. operated inner o (unary inner s))
+by_prefix inner n ts (Some o) = and_then (operator_taken_by n ts) (λ u s. operated o (unary inner s))
 
-unary_from-is : (inner : Option (Parse Within ExprTree)) (n : ℕ) (ts : Tokens) (o : Option (Placed UnOp)) → o ≡ prefix_operator ts → unary_from inner n ts ≡ by_prefix inner n ts o
-unfolding unary_from unary by_prefix
+pub unary_from-is : (inner : Option (Parse Within ExprTree)) (n : ℕ) (ts : Tokens) (o : Option (Placed UnOp)) → o ≡ prefix_operator ts → unary_from inner n ts ≡ by_prefix inner n ts o
+unfolding unary_from unary
 unary_from-is inner zero ts None e = rw (unary_from, ← e) refl
 unary_from-is inner zero ts (Some o) e = rw (unary_from, ← e) refl
 unary_from-is inner (suc n) ts None e = rw (unary_from, ← e) refl
 unary_from-is inner (suc n) ts (Some o) e = rw (unary_from, ← e) refl
 
+pub unary-is : (inner : Option (Parse Within ExprTree)) (s : Within) (o : Option (Placed UnOp)) → prefix_operator s.words ≡ o → unary inner s ≡ by_prefix inner s.operators s.words o
+unfolding unary
+unary-is inner s o e = unary_from-is inner s.operators s.words o (sym e)
+
 pub unary-primary : (inner : Option (Parse Within ExprTree)) (s : Within) → None ≡ prefix_operator s.words → unary inner s ≡ primary inner s
-unfolding unary by_prefix
+unfolding unary
 unary-primary inner s e = unary_from-is inner s.operators s.words None e
 
 pub unary-prefix : (inner : Option (Parse Within ExprTree)) (s : Within) (o : Placed UnOp) → Some o ≡ prefix_operator s.words
-    → unary inner s ≡ and_then (operator_taken s) (λ u s. operated inner o (unary inner s))
-unfolding unary by_prefix
+    → unary inner s ≡ and_then (operator_taken s) (λ u s. operated o (unary inner s))
+unfolding unary
 unary-prefix inner s o e = unary_from-is inner s.operators s.words (Some o) e
 
 pub enclosed-closes : (depth : ℕ) (s next rest : Within) (x : ExprTree) → 0 < depth → sees sg.OpenParen s.words ≡ true → next ≡ advanced s → expr (depth - 1) next ≡ done x rest

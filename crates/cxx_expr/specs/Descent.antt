@@ -19,9 +19,10 @@ use Rattle.cxx_tree.specs.Words.{Word}
 use Rattle.cxx_tree.specs.ExprTree as e
 use Rattle.cxx_tree.specs.ExprTree.{ExprTree, listed_exprs}
 use Rattle.cxx_tree.specs.Places.{expr_node}
+use Rattle.cxx_tree.specs.Fits.{level_of, expr_level}
 use Rattle.cxx_expr.specs.declared.stop.Stop.TheVariants.{Syntax, Deep}
 use Rattle.cxx_expr.specs.Tokens.{Tokens, sees, after}
-use Rattle.cxx_expr.specs.Operators.{binary_of, unary_of, level_of}
+use Rattle.cxx_expr.specs.Operators.{binary_of, unary_of}
 use Rattle.cxx_expr.specs.Outcome.{Outcome, done, failed, Parse, and_then, expect}
 use Rattle.cxx_expr.specs.Lefts.{node_at, name, target, selected, left_by}
 use Rattle.cxx_expr.specs.Within.{Within, on_words, advanced, operator_taken, operator_taken_by}
@@ -96,12 +97,16 @@ number_type k.Int = Some type_of.Int
 number_type k.Unsigned = Some type_of.Unsigned
 number_type _ = None
 
+abbrev pub operated : Placed UnOp → Outcome Within ExprTree → Outcome Within ExprTree
+operated o operand = and_then operand (λ t. done (e.unary (node_at o.at) o.item t))
+
+-- behind an opening parenthesis, if one more may be open
+abbrev pub opened_by : {A : Type 0} → Option (Parse Within ExprTree) → (Parse Within ExprTree → Parse Within A) → Parse Within A
+opened_by None body s = failed Deep s
+opened_by (Some p) body s = body p (advanced s)
+
 -- The rules, over the parser of what stands in parentheses one depth further in, if they may nest any deeper.
 module _ (inner : Option (Parse Within ExprTree)) where
-  abbrev pub opened_by : {A : Type 0} → Option (Parse Within ExprTree) → (Parse Within ExprTree → Parse Within A) → Parse Within A
-  opened_by None body s = failed Deep s
-  opened_by (Some p) body s = body p (advanced s)
-
   -- an expression in parentheses
   unfoldable pub enclosed : Parse Within ExprTree
   enclosed s = if sees sg.OpenParen s.words then opened_by inner (λ p s. and_then (p s) closed) s else failed Syntax s
@@ -170,9 +175,6 @@ module _ (inner : Option (Parse Within ExprTree)) where
   unfoldable pub primary : Parse Within ExprTree
   primary s = primary_of s.words s
 
-  abbrev pub operated : Placed UnOp → Outcome Within ExprTree → Outcome Within ExprTree
-  operated o operand = and_then operand (λ t. done (e.unary (node_at o.at) o.item t))
-
   -- the first number is how many more operators there may be
   unfoldable pub unary_from : ℕ → Tokens → Outcome Within ExprTree
   unary_from zero ts = elim (prefix_operator ts) [ None ↦ primary (record { words = ts; operators = zero }) | Some o ↦ failed Deep (record { words = ts; operators = zero }) ]
@@ -187,8 +189,8 @@ module _ (inner : Option (Parse Within ExprTree)) where
 
 -- an expression in which parentheses nest no deeper than this
 unfoldable pub expr : ℕ → Parse Within ExprTree
-expr zero = level None 10
-expr (suc depth) = level (Some (λ s. expr depth s)) 10
+expr zero = level None expr_level
+expr (suc depth) = level (Some (λ s. expr depth s)) expr_level
 
 abbrev pub inner_at : ℕ → Option (Parse Within ExprTree)
 inner_at zero = None

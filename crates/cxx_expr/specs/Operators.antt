@@ -1,5 +1,5 @@
--- The operators of expressions: their signs, and how tightly they bind.
-use Rattle.std.specs.Prelude.{ℕ, Option, Some, None}
+-- Which signs are operators of expressions.
+use Rattle.std.specs.Prelude.{Option, Some, None}
 use Rattle.agxx_base.specs.declared.vocabulary.Sign.{Sign}
 use Rattle.agxx_base.specs.declared.vocabulary.Sign.TheVariants as sg
 use Rattle.cxx_tree.specs.declared.operator.BinOp.{BinOp}
@@ -36,24 +36,3 @@ unary_of sg.Not = Some un.Not
 unary_of sg.Tilde = Some un.Complement
 unary_of sg.And = Some un.AddressOf
 unary_of _ = None
-
--- from the tightest operators, at 1, to the loosest
-abbrev pub level_of : BinOp → ℕ
-level_of op.Or = 10
-level_of op.And = 9
-level_of op.BitOr = 8
-level_of op.BitXor = 7
-level_of op.BitAnd = 6
-level_of op.Equal = 5
-level_of op.NotEqual = 5
-level_of op.Less = 4
-level_of op.LessEqual = 4
-level_of op.Greater = 4
-level_of op.GreaterEqual = 4
-level_of op.ShiftLeft = 3
-level_of op.ShiftRight = 3
-level_of op.Add = 2
-level_of op.Subtract = 2
-level_of op.Multiply = 1
-level_of op.Divide = 1
-level_of op.Remainder = 1

@@ -1,6 +1,6 @@
 //! Full expressions: those that are no part of another one.
 
-ghost use Rattle.std.specs.Prelude.{◌≤◌, length};
+ghost use Rattle.std.specs.Prelude.{◌≡◌, ◌≤◌, length};
 ghost use Rattle.cxx_tree.specs.ExprTree.{expr_tree};
 ghost use Rattle.cxx_expr.specs.Full as grammar;
 ghost use Rattle.cxx_expr.specs.Outcome.{Reads};
@@ -36,12 +36,26 @@ impl<'w> Parser<'w> {
         ensures reads { Reads expr_tree (grammar.full_level depth level self.old) result self.new }
         ensures left { length self.new ≤ length self.old }
     {
-        let mut within = Within {
+        let mut within = self.enter();
+        let found = within.level(depth, level);
+        self.leave(within);
+        found
+    }
+
+    /// A parser that stands here, at the beginning of a full expression.
+    fn enter(&self) -> Within<'w>
+        ensures { result ≡ record { words = self.now; operators = grammar.most_operators } }
+    {
+        Within {
             words: Parser::new(self.alloc, self.left),
             operators: MOST_OPERATORS,
-        };
-        let found = within.level(depth, level);
+        }
+    }
+
+    /// Goes to where a full expression ends.
+    fn leave(&mut self, within: Within<'w>)
+        ensures { self.new ≡ within.entry.words }
+    {
         self.left = within.words.left;
-        found
     }
 }

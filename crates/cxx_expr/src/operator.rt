@@ -1,6 +1,7 @@
 //! Which signs are operators of expressions, and how tightly they bind.
 
 ghost use Rattle.std.specs.Prelude.{◌≡◌};
+ghost use Rattle.cxx_tree.specs.Fits as fits;
 ghost use Rattle.cxx_expr.specs.Operators as spec;
 ghost use Rattle.cxx_expr.specs.Signs as signs;
 
@@ -62,7 +63,7 @@ pub fn unary_operator(sign: Sign) -> Option<UnOp>
 
 /// How loosely an operator binds, from 1 for `*` to 10 for `||`.
 pub fn level_of(op: BinOp) -> u8
-    ensures { result ≡ spec.level_of op }
+    ensures { result ≡ fits.level_of op }
 {
     match op {
         BinOp::Or => 10,

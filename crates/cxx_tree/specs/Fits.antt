@@ -53,7 +53,7 @@ abbrev mutual
   operators_in (e.unary n o operand) = suc (operators_in operand)
   operators_in (e.binary n o a b) = suc (operators_in a + operators_in b)
   operators_in (e.paren n inner) = operators_in inner
-  operators_in (e.cast n num operand) = operators_in operand
+  operators_in (e.cast n type_name operand) = operators_in operand
   operators_in (e.call c) = operators_in_call c
   operators_in (e.new n class) = 0
   operators_in (e.new_with n class arguments) = operators_in_all arguments
@@ -83,6 +83,15 @@ IsPlainType type_of.Unsigned = Unit {0}
 IsPlainType type_of.Void = Unit {0}
 IsPlainType (type_of.Pointer class) = Unit {0}
 IsPlainType type_of.Mutex = ⊥
+
+-- the types that a cast is written with
+abbrev pub IsNumberType : TypeName → Type 0
+IsNumberType (type_of.Num num) = Unit {0}
+IsNumberType type_of.Int = Unit {0}
+IsNumberType type_of.Unsigned = Unit {0}
+IsNumberType type_of.Void = ⊥
+IsNumberType (type_of.Pointer class) = ⊥
+IsNumberType type_of.Mutex = ⊥
 
 -- what holds of an optional part, if it is there
 abbrev pub Optionally : {A : Type 0} → (A → Type 0) → Option A → Type 0
@@ -118,7 +127,7 @@ module _ (grammar : Grammar) where
     FitsExpr depth level (e.binary n o a b) =
         (level_of o.item ≤ level) × FitsExpr depth (level_of o.item) a × FitsExpr depth (level_of o.item - 1) b
     FitsExpr depth level (e.paren n inner) = Opens depth (λ below. FitsExpr below expr_level inner)
-    FitsExpr depth level (e.cast n num operand) = Opens depth (λ below. FitsExpr below expr_level operand)
+    FitsExpr depth level (e.cast n type_name operand) = IsNumberType type_name × Opens depth (λ below. FitsExpr below expr_level operand)
     FitsExpr depth level (e.call c) = FitsCall depth c
     FitsExpr depth level (e.new n class) = Unit {0}
     FitsExpr depth level (e.new_with n class arguments) = Opens depth (λ below. FitsAll below arguments)
