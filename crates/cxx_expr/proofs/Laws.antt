@@ -56,7 +56,7 @@ primary-head inner s ts h = by_tokens s.words ts h
     by_tokens (x ∷ a) [] h = cc
     by_tokens (x ∷ a) (y ∷ b) h = let i : x ≡ y = cc in ap (λ t. primary_by inner t.at t.item s) i
 
-unary-again : (inner : Option (Parse Within ExprTree)) (o : Placed UnOp) (s : Within) → unary inner (before (unary_token o ∷ []) s) ≡ operated o (unary inner s)
+pub unary-again : (inner : Option (Parse Within ExprTree)) (o : Placed UnOp) (s : Within) → unary inner (before (unary_token o ∷ []) s) ≡ operated o (unary inner s)
 unary-again inner o s =
     unary-prefix inner (before (unary_token o ∷ []) s) o (sym (prefix-again o s.words))
     ∙ ap (λ n. and_then (operator_taken_by n (unary_token o ∷ s.words)) (λ u q. operated o (unary inner q))) (charge-unary o.item s.operators)

@@ -9,3 +9,8 @@ pub mod Sorts
 pub mod Arguments
 pub mod Chains
 pub mod Laws
+pub mod Fronts
+pub mod CompleteNames
+pub mod CompleteParts
+pub mod Complete
+pub mod Whole

@@ -6,3 +6,4 @@ pub mod Lefts
 pub mod Within
 pub mod Descent
 pub mod Full
+pub mod Whole

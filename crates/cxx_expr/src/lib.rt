@@ -10,10 +10,12 @@ mod expr;
 mod full;
 mod operator;
 mod parser;
+mod read;
 mod stop;
 mod within;
 mod word;
 
 pub use parser::Parser;
+pub use read::{Unread, read_expr, spelling_is_unique};
 pub use stop::Stop;
 pub use word::{Word, WordAt};
