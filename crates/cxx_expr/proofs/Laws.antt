@@ -300,6 +300,11 @@ module _ (special : SpecialName → ℕ) (g : Grammar) where
         (λ q r. chain (λ q. level inner' l q) (suc l) (length q.words) t q ≡ r) rest (chain (λ q. level inner l q) (suc l) (length rest.words) t rest) (λ q r h a. a (length q.words) (omega arith))
         (good_chain special g depth l (level inner l) (level inner' l) (good_level l) (length rest.words) t rest (omega arith) (Fits-weaken g depth l t v)))
 
+  inner_is : (depth deeper : ℕ) → depth ≤ deeper → ((d d' : ℕ) → d ≤ d' → Goods within (exprs special g d expr_level) (expr d) (expr d')) → IsInner depth (inner_at depth) (inner_at deeper)
+  inner_is zero deeper h G = tt
+  inner_is (suc depth) zero h G = absurd (omega (arith, h))
+  inner_is (suc depth) (suc deeper) h G = (depth, refl, G depth deeper (omega (arith, h)))
+
   goods_as : (depth : ℕ) (p p' q q' : Parse Within ExprTree) → ((s : Within) → q s ≡ p s) → ((s : Within) → q' s ≡ p' s) → Goods within (exprs special g depth expr_level) p p' → Goods within (exprs special g depth expr_level) q q'
   goods_as depth p p' q q' i i' G s =
       subst (Good within [] (exprs special g depth expr_level) (λ q r. q' q ≡ r) s) (sym (i s))
@@ -312,3 +317,7 @@ module _ (special : SpecialName → ℕ) (g : Grammar) where
   good_expr (suc depth) (suc deeper) h =
       goods_as (suc depth) (level (inner_at (suc depth)) expr_level) (level (inner_at (suc deeper)) expr_level) (expr (suc depth)) (expr (suc deeper)) (expr-is (suc depth)) (expr-is (suc deeper))
       (good_level (suc depth) (inner_at (suc depth)) (inner_at (suc deeper)) (depth, refl, good_expr depth deeper (omega (arith, h))) expr_level)
+
+  -- and so at each level
+  pub good_level_at : (depth deeper l : ℕ) → depth ≤ deeper → Goods within (exprs special g depth l) (level (inner_at depth) l) (level (inner_at deeper) l)
+  good_level_at depth deeper l h = good_level depth (inner_at depth) (inner_at deeper) (inner_is depth deeper h good_expr) l

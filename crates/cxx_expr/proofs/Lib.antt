@@ -14,3 +14,4 @@ pub mod CompleteNames
 pub mod CompleteParts
 pub mod Complete
 pub mod Whole
+pub mod FullLaws

@@ -11,12 +11,13 @@ use Rattle.cxx_expr.specs.Descent.{level, expr, inner_at}
 abbrev pub most_operators : ℕ
 most_operators = 400
 
--- a full expression with operators up to a level, in which parentheses nest no deeper than this
-unfoldable pub full_level : ℕ → ℕ → Parse Tokens ExprTree
-full_level depth l = full most_operators (level (inner_at depth) l)
+-- A full expression, of so many operators at most and with operators up to a level outside parentheses, which nest no
+-- deeper than depth.
+unfoldable pub full_level : ℕ → ℕ → ℕ → Parse Tokens ExprTree
+full_level most depth l = full most (level (inner_at depth) l)
 
 abbrev pub full_expr : ℕ → Parse Tokens ExprTree
-full_expr depth = full_level depth expr_level
+full_expr depth = full_level most_operators depth expr_level
 
 abbrev pub full_sum : ℕ → Parse Tokens ExprTree
-full_sum depth = full_level depth sum_level
+full_sum depth = full_level most_operators depth sum_level

@@ -35,6 +35,11 @@ abbrev pub is_sign : Sign → Word → Bool
 is_sign s (w.sign found) = same_sign found s
 is_sign s _ = false
 
+-- the token that comes next
+abbrev pub next : Tokens → Option (Placed Word)
+next [] = None
+next (t ∷ ts) = Some t
+
 -- this sign comes next
 abbrev pub sees : Sign → Tokens → Bool
 sees s [] = false

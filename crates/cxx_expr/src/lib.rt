@@ -15,7 +15,7 @@ mod stop;
 mod within;
 mod word;
 
-pub use parser::Parser;
+pub use parser::{Parser, left_of, unnumbered};
 pub use read::{Unread, read_expr, spelling_is_unique};
 pub use stop::Stop;
 pub use word::{Word, WordAt};

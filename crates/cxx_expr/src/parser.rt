@@ -1,6 +1,6 @@
 //! A cursor over words, with the rules that have no expression in them.
 
-ghost use Rattle.std.specs.Prelude.{◌≡◌, ◌<◌, ◌≤◌, ◌-◌, length, IsTrue, ◌↔◌, [], OnOk};
+ghost use Rattle.std.specs.Prelude.{◌≡◌, ◌<◌, ◌≤◌, ◌-◌, length, option_map, IsTrue, ◌↔◌, [], OnOk};
 ghost use Rattle.cxx_expr.specs.Lefts as grammar;
 ghost use Rattle.cxx_expr.specs.Lefts.{node_at, left_by};
 ghost use Rattle.cxx_expr.specs.Outcome as outcome;
@@ -62,6 +62,21 @@ impl<'w> Parser<'w> {
         ensures { result ≡ length self.now }
     {
         self.left.len()
+    }
+
+    /// Where the trees that are read lie.
+    pub fn alloc(&self) -> Global {
+        self.alloc
+    }
+
+    /// The word that comes next.
+    pub fn peek(&self) -> Option<WordAt<'w>>
+        ensures { option_map tokens.token_of result ≡ tokens.next self.now }
+    {
+        match self.left {
+            [] => None,
+            [next, ..] => Some(*next),
+        }
     }
 
     pub fn is_empty(&self) -> bool
