@@ -1,5 +1,5 @@
 -- Trees with all places and numbers of nodes taken out of them.
-use Rattle.std.specs.Prelude.{Option, Some, None, List, map, option_map}
+use Rattle.std.specs.Prelude.{map, option_map}
 use Rattle.agxx_base.specs.declared.place.Place.{Place}
 use Rattle.cxx_tree.specs.declared.node.Node.{Node}
 use Rattle.cxx_tree.specs.declared.node.Placed.{Placed}

@@ -11,3 +11,4 @@ pub mod Fits
 pub mod AspectFits
 pub mod Blank
 pub mod Same
+pub mod Nodes

@@ -97,8 +97,18 @@ spell_flag false = keyword k.False ∷ []
 abbrev pub spell_quoted : Quoted → List Word
 spell_quoted q = text q.bytes ∷ []
 
+-- a part with `::` before it, or without
+abbrev pub scoped : Bool → List Word → List Word
+scoped true part = sign sg.ColonColon ∷ part
+scoped false part = part
+
+-- a part with a sign in front of it, or behind it
+abbrev pub beside : Bool → Sign → List Word → List Word
+beside true s part = sign s ∷ part
+beside false s part = part ++ sign s ∷ []
+
 abbrev pub spell_ref : Ref → List Word
-spell_ref r = elim r.global [ true ↦ sign sg.ColonColon ∷ spell_name r.name | false ↦ spell_name r.name ]
+spell_ref r = scoped r.global (spell_name r.name)
 
 abbrev pub spell_base : Base → List Word
 spell_base base_of.This = keyword k.This ∷ sign sg.Arrow ∷ []
@@ -194,10 +204,7 @@ module _ (special : SpecialName → ℕ) where
   spell_assign a = spell_left a.left ++ sign (assign_sign a.sign.item) ∷ spell_expr a.value
 
   abbrev pub spell_bump : Bump → List Word
-  spell_bump b = elim b.in_front [
-    | true ↦ sign (bump_sign b.adds) ∷ spell_left b.left
-    | false ↦ spell_left b.left ++ sign (bump_sign b.adds) ∷ []
-  ]
+  spell_bump b = beside b.in_front (bump_sign b.adds) (spell_left b.left)
 
   abbrev pub spell_simple : s.SimpleTree → List Word
   spell_simple (s.assign a) = spell_assign a

@@ -9,8 +9,10 @@
 #![tactic(auto)]
 
 mod aspect;
+mod count;
 mod equality;
 mod expr;
+mod laws;
 mod node;
 mod operator;
 mod program;
@@ -20,8 +22,10 @@ pub use aspect::{
     Advice, ArgsEntry, Aspect, AspectItem, Aspects, Moment, Order, Pointcut, PointcutDecl,
     PointcutFunction, PointcutOp, Slice, SliceItem,
 };
+pub use count::node_count;
 pub use equality::same;
 pub use expr::{Base, Call, Callee, Expr, Left, Ref, Selector};
+pub use laws::{larger_limits_fit, same_is_equivalence, same_is_spelled_alike};
 pub use node::{Name, Node, Number, Placed, Quoted};
 pub use operator::{BinOp, UnOp};
 pub use program::{
@@ -32,3 +36,6 @@ pub use stmt::{
     Assign, Block, Bump, Else, For, If, Initial, Local, Print, Printed, Simple, Start, Stmt,
     Thread, While,
 };
+
+#[cfg(test)]
+mod tests;

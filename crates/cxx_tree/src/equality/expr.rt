@@ -60,12 +60,14 @@ pub(super) fn same_expr(a: &Expr, b: &Expr) -> bool
         (Expr::Null(_), Expr::Null(_)) => true,
         (Expr::This(_), Expr::This(_)) => true,
         (Expr::Left(a), Expr::Left(b)) => same_left(a, b),
-        (Expr::Unary(_, op, a), Expr::Unary(_, other, b)) => op == other && same_expr(a.get(), b.get()),
+        (Expr::Unary(_, op, a), Expr::Unary(_, other, b)) => op == other
+            && same_expr(a.get(), b.get()),
         (Expr::Binary(_, op, a, b), Expr::Binary(_, other, c, d)) => {
             op.item == other.item && same_expr(a.get(), c.get()) && same_expr(b.get(), d.get())
         }
         (Expr::Paren(_, a), Expr::Paren(_, b)) => same_expr(a.get(), b.get()),
-        (Expr::Cast(_, kind, a), Expr::Cast(_, other, b)) => kind == other && same_expr(a.get(), b.get()),
+        (Expr::Cast(_, kind, a), Expr::Cast(_, other, b)) => kind == other
+            && same_expr(a.get(), b.get()),
         (Expr::Call(a), Expr::Call(b)) => same_call(a, b),
         (Expr::New(_, class, None), Expr::New(_, other, None)) => class.item == other.item,
         (Expr::New(_, class, Some(a)), Expr::New(_, other, Some(b))) => {

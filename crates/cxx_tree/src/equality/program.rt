@@ -2,14 +2,15 @@
 
 ghost use Rattle.std.specs.Prelude.{◌≡◌, ◌↔◌, IsTrue, map, option_map};
 ghost use Rattle.cxx_tree.specs.ProgramTree.{function_tree, init_tree, ctor_tree, dtor_tree, item_tree, class_tree, object_tree, global_tree, decl_tree, program_tree};
-ghost use Rattle.cxx_tree.specs.Blank.{blank_placed, blank_param, blank_member, blank_function, blank_proto, blank_init, blank_ctor, blank_dtor, blank_item, blank_class, blank_class_name, blank_variable, blank_object, blank_global, blank_decl, blank_program};
+ghost use Rattle.cxx_tree.specs.Blank.{blank_placed, blank_param, blank_member, blank_function, blank_proto, blank_init, blank_ctor, blank_dtor, blank_item, blank_class, blank_class_name, blank_variable, blank_object, blank_global, blank_decl};
 ghost use Rattle.cxx_tree.specs.Same.{IsSame};
 
 use super::expr::same_exprs;
 use super::stmt::same_block;
 use crate::node::{Name, Placed};
 use crate::program::{
-    Class, ClassName, Const, Ctor, Decl, Directive, Dtor, Function, Global, Init, Item, Member, Object, Param, Program, Proto, Variable,
+    Class, ClassName, Const, Ctor, Decl, Directive, Dtor, Function, Global, Init, Item, Member,
+    Object, Param, Program, Proto, Variable,
 };
 
 fn same_param(a: &Param, b: &Param) -> bool
@@ -42,7 +43,9 @@ fn same_function(a: &Function, b: &Function) -> bool
 fn same_proto(a: &Proto, b: &Proto) -> bool
     ensures { IsTrue result ↔ (blank_proto a.now ≡ blank_proto b.now) }
 {
-    a.result.item == b.result.item && a.name.item == b.name.item && same_params(a.params.as_slice(), b.params.as_slice())
+    a.result.item == b.result.item
+        && a.name.item == b.name.item
+        && same_params(a.params.as_slice(), b.params.as_slice())
 }
 
 fn same_init(a: &Init, b: &Init) -> bool
@@ -129,13 +132,17 @@ fn same_constant(a: &Option<Placed<Const>>, b: &Option<Placed<Const>>) -> bool
 fn same_variable(a: &Variable, b: &Variable) -> bool
     ensures { IsTrue result ↔ (blank_variable a.now ≡ blank_variable b.now) }
 {
-    a.type_name.item == b.type_name.item && a.name.item == b.name.item && same_constant(&a.initial, &b.initial)
+    a.type_name.item == b.type_name.item
+        && a.name.item == b.name.item
+        && same_constant(&a.initial, &b.initial)
 }
 
 fn same_object(a: &Object, b: &Object) -> bool
     ensures { IsTrue result ↔ (blank_object (object_tree a.now) ≡ blank_object (object_tree b.now)) }
 {
-    a.class.item == b.class.item && a.name.item == b.name.item && same_exprs(a.arguments.as_slice(), b.arguments.as_slice())
+    a.class.item == b.class.item
+        && a.name.item == b.name.item
+        && same_exprs(a.arguments.as_slice(), b.arguments.as_slice())
 }
 
 fn same_global(a: &Global, b: &Global) -> bool
@@ -184,5 +191,6 @@ fn same_directives(a: &[Directive], b: &[Directive]) -> bool
 pub fn same(a: &Program, b: &Program) -> bool
     ensures { IsTrue result ↔ IsSame (program_tree a.now) (program_tree b.now) }
 {
-    same_directives(a.directives.as_slice(), b.directives.as_slice()) && same_decls(a.decls.as_slice(), b.decls.as_slice())
+    same_directives(a.directives.as_slice(), b.directives.as_slice())
+        && same_decls(a.decls.as_slice(), b.decls.as_slice())
 }

@@ -1,7 +1,6 @@
 //! Equality of statements but for places and numbers of nodes.
 
 ghost use Rattle.std.specs.Prelude.{◌≡◌, ◌↔◌, IsTrue, option_map, map};
-ghost use Rattle.std.specs.Option.{option_copied};
 ghost use Rattle.cxx_tree.specs.ExprTree.{expr_tree};
 ghost use Rattle.cxx_tree.specs.StmtTree.{local_tree, assign_tree, simple_tree, printed_tree, print_tree, thread_tree, start_tree, stmt_tree, stmts_tree, block_tree, if_tree, else_tree, while_tree, for_tree, initial_tree};
 ghost use Rattle.cxx_tree.specs.Blank.{blank_quoted, blank_local, blank_initial, blank_assign, blank_bump, blank_simple, blank_printed, blank_print, blank_thread, blank_start, blank_stmt, blank_stmts, blank_block, blank_if, blank_else, blank_expr};
@@ -9,7 +8,10 @@ ghost use Rattle.cxx_tree.specs.Blank.{blank_quoted, blank_local, blank_initial,
 use super::expr::{same_call, same_expr, same_exprs, same_left, same_ref};
 use crate::expr::Expr;
 use crate::node::Quoted;
-use crate::stmt::{Assign, Block, Bump, Else, For, If, Initial, Local, Print, Printed, Simple, Start, Stmt, Thread, While};
+use crate::stmt::{
+    Assign, Block, Bump, Else, For, If, Initial, Local, Print, Printed, Simple, Start, Stmt,
+    Thread, While,
+};
 
 fn same_quoted(a: &Quoted, b: &Quoted) -> bool
     ensures { IsTrue result ↔ (blank_quoted a.now ≡ blank_quoted b.now) }
@@ -40,7 +42,9 @@ fn same_optional(a: &Option<Expr>, b: &Option<Expr>) -> bool
 fn same_local(a: &Local, b: &Local) -> bool
     ensures { IsTrue result ↔ (blank_local (local_tree a.now) ≡ blank_local (local_tree b.now)) }
 {
-    a.type_name.item == b.type_name.item && a.name.item == b.name.item && same_initial(&a.initial, &b.initial)
+    a.type_name.item == b.type_name.item
+        && a.name.item == b.name.item
+        && same_initial(&a.initial, &b.initial)
 }
 
 fn same_assign(a: &Assign, b: &Assign) -> bool
@@ -114,7 +118,9 @@ fn same_print(a: &Print, b: &Print) -> bool
 fn same_thread(a: &Thread, b: &Thread) -> bool
     ensures { IsTrue result ↔ (blank_thread (thread_tree a.now) ≡ blank_thread (thread_tree b.now)) }
 {
-    a.name.item == b.name.item && same_ref(&a.function, &b.function) && same_exprs(a.arguments.as_slice(), b.arguments.as_slice())
+    a.name.item == b.name.item
+        && same_ref(&a.function, &b.function)
+        && same_exprs(a.arguments.as_slice(), b.arguments.as_slice())
 }
 
 #[cycle(same_stmt)]
@@ -187,5 +193,8 @@ fn same_while(a: &While, b: &While) -> bool
 fn same_for(a: &For, b: &For) -> bool
     ensures { IsTrue result ↔ (blank_stmt (for_tree a.now) ≡ blank_stmt (for_tree b.now)) }
 {
-    same_start(&a.start, &b.start) && same_optional(&a.condition, &b.condition) && same_step(&a.step, &b.step) && same_block(&a.body, &b.body)
+    same_start(&a.start, &b.start)
+        && same_optional(&a.condition, &b.condition)
+        && same_step(&a.step, &b.step)
+        && same_block(&a.body, &b.body)
 }
