@@ -38,7 +38,7 @@ module _ (g : Grammar) where
     expr-larger d m le level (e.binary n o a b) (within, first, second) =
         (within, expr-larger d m le _ a first, expr-larger d m le _ b second)
     expr-larger d m le level (e.paren n inner) h = opens-larger d m le (λ b c below. expr-larger b c below _ inner) h
-    expr-larger d m le level (e.cast n num operand) h = opens-larger d m le (λ b c below. expr-larger b c below _ operand) h
+    expr-larger d m le level (e.cast n type_name operand) h = (h.0, opens-larger d m le (λ b c below. expr-larger b c below _ operand) h.1)
     expr-larger d m le level (e.call q) h = call-larger d m le q h
     expr-larger d m le level (e.new n class) h = tt
     expr-larger d m le level (e.new_with n class arguments) h = opens-larger d m le (λ b c below. all_exprs-larger b c below arguments) h
