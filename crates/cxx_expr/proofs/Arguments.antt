@@ -1,5 +1,5 @@
 -- Lists of arguments are read right, if each argument is.
-use Rattle.std.proofs.Common.{◌≡◌, ℕ, zero, suc, ◌+◌, ◌-◌, ◌≤◌, ◌<◌, Bool, true, false, cond, List, [], ◌∷◌, ◌++◌, length, length-append, Option, Some, None, ◌⊎◌, inl, inr, refl, sym, ap, ◌∙◌, subst, append_assoc, append-nil, arith}
+use Rattle.std.proofs.Common.{◌≡◌, ℕ, zero, suc, ◌+◌, ◌≤◌, ◌<◌, true, List, [], ◌∷◌, ◌++◌, length, length-append, refl, sym, ap, ◌∙◌, subst, append-nil, arith}
 use Rattle.agxx_base.specs.declared.vocabulary.Sign.TheVariants as sg
 use Rattle.agxx_base.specs.declared.vocabulary.SpecialName.{SpecialName}
 use Rattle.cxx_tree.specs.Words as w
@@ -7,15 +7,16 @@ use Rattle.cxx_tree.specs.Words.{Word}
 use Rattle.cxx_tree.specs.ExprTree.{ExprTree, listed_exprs}
 use Rattle.cxx_tree.specs.Limits.{Grammar}
 use Rattle.cxx_tree.specs.Fits.{expr_level}
+use Rattle.cxx_tree.proofs.Larger.{expr-larger, all_exprs-larger}
 use Rattle.cxx_expr.specs.declared.stop.Stop.TheVariants.{Syntax}
-use Rattle.cxx_expr.specs.Tokens.{Tokens, sees, after}
-use Rattle.cxx_expr.specs.Outcome.{Outcome, done, failed, Parse, and_then, expect}
+use Rattle.cxx_expr.specs.Tokens.{Tokens, sees}
+use Rattle.cxx_expr.specs.Outcome.{Outcome, done, failed, Parse, expect}
 use Rattle.cxx_expr.specs.Within.{Within, on_words, advanced}
 use Rattle.cxx_expr.specs.Descent.{front_of, closed, items_more, items_from, items}
 use Rattle.cxx_expr.proofs.Turns.{length-after, true-sees}
-use Rattle.cxx_expr.proofs.Good.{Sort, Good, Goods, IsViable, next, good_done, good_fail, good_shift, good_then, good_if, good_bind, good_as}
+use Rattle.cxx_expr.proofs.Good.{Sort, Good, Goods, good_done, good_shift, good_then, good_if, good_bind, good_as}
 use Rattle.cxx_expr.proofs.States.{within, before, signs, sees-before, good_expect, good_on_words}
-use Rattle.cxx_expr.proofs.Sorts.{default, exprs, lists, tails, somes, SomeFit-all, spell-cons, spell-tail, Fits-deeper, All-deeper}
+use Rattle.cxx_expr.proofs.Sorts.{default, exprs, lists, tails, somes, SomeFit-all, spell-cons, spell-tail}
 
 -- the parenthesis that ends x
 pub good_closed : {B : Type 0} (pre : List Word) (K : Sort B) (x : B) → K.IsOne x → K.spelled x ≡ pre ++ w.sign sg.CloseParen ∷ [] → (s : Within)
@@ -80,7 +81,7 @@ module _ (special : SpecialName → ℕ) (g : Grammar) (below : ℕ) (p p' : Par
   next_item n x rest v others =
       good_then within (E.spelled x) T F AgR (λ ys q r. done (x ∷ ys) q ≡ r) (AgM x)
       (λ ys front other r a f m lt. ap (front_of (x ∷ [])) (a m lt) ∙ f) (λ q us a m lt. ap (front_of (x ∷ [])) (a m lt)) [] (0, tt)
-      (λ ys u. (x ∷ ys, [], (below + u.0, (Fits-deeper g x below (below + u.0) expr_level (omega arith) v, All-deeper g (listed_exprs ys) u.0 (below + u.0) (omega arith) u.1)),
+      (λ ys u. (x ∷ ys, [], (below + u.0, (expr-larger g below (below + u.0) (omega arith) expr_level x v, all_exprs-larger g u.0 (below + u.0) (omega arith) (listed_exprs ys) u.1)),
       spell-cons special g x ys ∙ sym (append-nil (E.spelled x ++ T.spelled ys))))
       (λ ys. done (x ∷ ys)) rest (items_more (λ q. items_from p n q) rest)
       (good_more n rest others)

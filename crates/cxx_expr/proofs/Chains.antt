@@ -1,5 +1,5 @@
 -- Operators of one level are read right, if their operands are.
-use Rattle.std.proofs.Common.{◌≡◌, ℕ, zero, suc, ◌+◌, ◌-◌, ◌≤◌, ◌<◌, Bool, true, false, cond, List, [], ◌∷◌, ◌++◌, length, length-append, Option, Some, None, ◌⊎◌, inl, inr, refl, sym, ap, ◌∙◌, subst, append_assoc, append-nil, arith}
+use Rattle.std.proofs.Common.{◌≡◌, ℕ, zero, suc, ◌+◌, ◌-◌, ◌≤◌, List, [], ◌∷◌, ◌++◌, length, length-append, Option, Some, None, refl, sym, ap, ◌∙◌, subst, append_assoc, append-nil, arith}
 use Rattle.agxx_base.specs.declared.vocabulary.SpecialName.{SpecialName}
 use Rattle.cxx_tree.specs.declared.node.Placed.{Placed}
 use Rattle.cxx_tree.specs.declared.operator.BinOp.{BinOp}
@@ -9,16 +9,16 @@ use Rattle.cxx_tree.specs.ExprTree.{ExprTree}
 use Rattle.cxx_tree.specs.Spelling.{binary_sign}
 use Rattle.cxx_tree.specs.Limits.{Grammar}
 use Rattle.cxx_tree.specs.Fits.{level_of}
-use Rattle.cxx_expr.specs.declared.stop.Stop.TheVariants.{Syntax}
+use Rattle.cxx_tree.proofs.Larger.{expr-larger}
 use Rattle.cxx_expr.specs.Tokens.{Tokens, after}
-use Rattle.cxx_expr.specs.Outcome.{Outcome, done, failed, Parse, and_then}
+use Rattle.cxx_expr.specs.Outcome.{Outcome, Parse, and_then}
 use Rattle.cxx_expr.specs.Within.{Within, operator_taken, operator_taken_by}
 use Rattle.cxx_expr.specs.Descent.{operator, joined, chain}
 use Rattle.cxx_expr.proofs.Turns.{chain-stop}
-use Rattle.cxx_expr.proofs.Good.{Sort, Good, Goods, next, good_done, good_shift, good_then}
+use Rattle.cxx_expr.proofs.Good.{Sort, Good, Goods, good_done, good_shift, good_then}
 use Rattle.cxx_expr.proofs.States.{within, before, joins}
 use Rattle.cxx_expr.proofs.Operators.{binary_token, charge-binary, operator-again, operator-is, operator-head}
-use Rattle.cxx_expr.proofs.Sorts.{default, exprs, Fits-deeper}
+use Rattle.cxx_expr.proofs.Sorts.{default, exprs}
 
 module _ (special : SpecialName → ℕ) (g : Grammar) (depth l : ℕ) (p p' : Parse Within ExprTree) (G : Goods within (exprs special g depth l) p p') where
   abbrev K : Sort ExprTree
@@ -59,7 +59,7 @@ module _ (special : SpecialName → ℕ) (g : Grammar) (depth l : ℕ) (p p' : P
       (λ second front other r q f m lt. rw q (f m (omega (arith, lt, length-append front other.words))))
       (λ q rest i m lt. rw i refl)
       default (0, tt)
-      (λ second u. (joined o sofar second, [], (depth + u.0, fits_joined (depth + u.0) o sofar second e (Fits-deeper g sofar depth (depth + u.0) (suc l) (omega arith) v) (Fits-deeper g second u.0 (depth + u.0) l (omega arith) u.1)),
+      (λ second u. (joined o sofar second, [], (depth + u.0, fits_joined (depth + u.0) o sofar second e (expr-larger g depth (depth + u.0) (omega arith) (suc l) sofar v) (expr-larger g u.0 (depth + u.0) (omega arith) l second u.1)),
       spelled o sofar second ∙ sym (append-nil (pre ++ K.spelled second))))
       (λ second. chain p (suc l) n (joined o sofar second)) s (p s) (G s)
       (λ second rest front u q. subst (λ t. Good within t K (AgC (joined o sofar second)) rest (chain p (suc l) n (joined o sofar second) rest)) (spelled o sofar second)

@@ -1,5 +1,5 @@
 -- The spelling of each expression is read again, before anything that doesn't go on with it.
-use Rattle.std.proofs.Common.{◌≡◌, ◌≢◌, ℕ, zero, suc, ◌+◌, ◌-◌, ◌≤◌, ◌<◌, Bool, true, false, cond, List, [], ◌∷◌, ◌++◌, length, length-append, Option, Some, None, ◌⊎◌, inl, inr, refl, sym, ap, ◌∙◌, subst, append_assoc, append-nil, arith}
+use Rattle.std.proofs.Common.{◌≡◌, ℕ, zero, suc, ◌-◌, ◌≤◌, ◌<◌, Bool, true, false, List, [], ◌∷◌, ◌++◌, length, length-append, Option, None, ◌⊎◌, inl, inr, refl, sym, ap, ◌∙◌, subst, append_assoc, append-nil, arith}
 use Rattle.std.proofs.lemmas.Bool.Decides.{eqb_tells}
 use Rattle.agxx_base.specs.declared.place.Place.{Place}
 use Rattle.agxx_base.specs.declared.ids.NameId.{NameId}
@@ -28,19 +28,18 @@ use Rattle.cxx_tree.specs.ExprTree.{ExprTree, ExprTrees, listed_exprs}
 use Rattle.cxx_tree.specs.Spelling.{binary_sign, unary_sign, spell_name, spell_ref, spell_callee, spell_left, spell_type, spell_expr, spell_each}
 use Rattle.cxx_tree.specs.Limits.{Grammar, HasAdviceForms, Opens}
 use Rattle.cxx_tree.specs.Fits.{level_of, expr_level, FitsLeft, FitsExpr, FitsAll, IsNumberType}
-use Rattle.cxx_tree.specs.Blank.{no_node, blank_placed, blank_ref, blank_left, blank_callee, blank_expr, blank_exprs}
-use Rattle.cxx_expr.specs.Tokens.{Tokens, words_of, sees, after}
-use Rattle.cxx_expr.specs.Outcome.{Outcome, done, failed, Parse, and_then}
+use Rattle.cxx_tree.specs.Blank.{no_node, blank_placed, blank_left, blank_callee, blank_expr, blank_exprs}
+use Rattle.cxx_expr.specs.Tokens.{Tokens, words_of, sees}
+use Rattle.cxx_expr.specs.Outcome.{done, Parse, and_then}
 use Rattle.cxx_expr.specs.Lefts.{node_at, name, selected, target, left_by}
-use Rattle.cxx_expr.specs.Within.{Within, with_operators, on_words, advanced, operator_taken}
-use Rattle.cxx_expr.specs.Descent.{operator, joined, chain, enclosed, arguments, called, named, grouped, converted, own, created_with, created, primary, operated, unary, level, expr, inner_at}
+use Rattle.cxx_expr.specs.Within.{Within, with_operators, operator_taken}
+use Rattle.cxx_expr.specs.Descent.{joined, chain, enclosed, called, named, grouped, converted, own, created_with, created, primary, operated, unary, level, expr, inner_at}
 use Rattle.cxx_expr.proofs.Turns.{chain-stop, chain-turn, expr-is, unary-primary, created_with-arguments}
-use Rattle.cxx_expr.proofs.Good.{words-append}
 use Rattle.cxx_expr.proofs.States.{before, before-append, joins, charged, IsFree, free-charged}
 use Rattle.cxx_expr.proofs.Names.{member_of, free-callee}
-use Rattle.cxx_expr.proofs.Operators.{binary_token, unary_token, charge-binary, operator-again, operator-above}
+use Rattle.cxx_expr.proofs.Operators.{binary_token, charge-binary, operator-again, operator-above}
 use Rattle.cxx_expr.proofs.Laws.{unary-again}
-use Rattle.cxx_expr.proofs.Fronts.{token, front_cons, front_append, front_one, front_two, Ends, Ends-below, sees_in, sees-words}
+use Rattle.cxx_expr.proofs.Fronts.{token, front_cons, front_append, front_one, front_two, Ends, Ends-below, sees_in}
 use Rattle.cxx_expr.proofs.CompleteNames.{read_name, target-bare, target-dot, target-arrow}
 use Rattle.cxx_expr.proofs.CompleteParts.{opens, IsReadAs, IsFull, IsFullInside, enclosed-full, arguments-full, called-full}
 

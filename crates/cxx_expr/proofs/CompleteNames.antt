@@ -1,26 +1,24 @@
 -- The spelling of each name and reference is read again.
-use Rattle.std.proofs.Common.{◌≡◌, ℕ, Bool, true, false, List, [], ◌∷◌, ◌++◌, Option, Some, None, refl, sym, ap, ◌∙◌, subst, append_assoc, append-nil, arith}
+use Rattle.std.proofs.Common.{◌≡◌, Bool, true, false, [], ◌∷◌, ◌++◌, refl, sym, ap, ◌∙◌, subst, append_assoc}
 use Rattle.agxx_base.specs.declared.place.Place.{Place}
 use Rattle.agxx_base.specs.declared.ids.NameId.{NameId}
-use Rattle.agxx_base.specs.declared.vocabulary.Keyword.TheVariants as k
 use Rattle.agxx_base.specs.declared.vocabulary.Sign.TheVariants as sg
 use Rattle.cxx_tree.specs.declared.node.Node.{Node}
 use Rattle.cxx_tree.specs.declared.node.Placed.{Placed}
 use Rattle.cxx_tree.specs.declared.expr.Ref.{Ref}
-use Rattle.cxx_tree.specs.declared.expr.Selector.{Selector}
 use Rattle.cxx_tree.specs.declared.expr.Base.{Base}
 use Rattle.cxx_tree.specs.declared.expr.Base.TheVariants as base_of
 use Rattle.cxx_tree.specs.declared.expr.Callee.{Callee}
 use Rattle.cxx_tree.specs.declared.expr.Callee.TheVariants as callee_of
 use Rattle.cxx_tree.specs.Words as w
 use Rattle.cxx_tree.specs.Words.{Word}
-use Rattle.cxx_tree.specs.Spelling.{spell_name, spell_ref, spell_base, spell_selector, spell_callee}
-use Rattle.cxx_tree.specs.Blank.{blank_placed, blank_ref, blank_base, blank_selector, blank_callee}
+use Rattle.cxx_tree.specs.Spelling.{spell_name, spell_ref}
+use Rattle.cxx_tree.specs.Blank.{blank_placed, blank_ref, blank_base, blank_callee}
 use Rattle.cxx_expr.specs.Tokens.{Tokens, words_of, sees}
-use Rattle.cxx_expr.specs.Outcome.{Outcome, done, failed, and_then}
+use Rattle.cxx_expr.specs.Outcome.{done}
 use Rattle.cxx_expr.specs.Lefts.{node_at, name, reference, selected, selected_of, target}
 use Rattle.cxx_expr.proofs.Names.{member_of}
-use Rattle.cxx_expr.proofs.Fronts.{token, front_cons, front_append, front_one, front_two}
+use Rattle.cxx_expr.proofs.Fronts.{token, front_append, front_one, front_two}
 
 -- a name, as it is read
 abbrev pub read_name : Place → Placed NameId → Placed NameId

@@ -1,11 +1,10 @@
 -- What stands in parentheses is read again.
-use Rattle.std.proofs.Common.{◌≡◌, ℕ, zero, suc, ◌+◌, ◌-◌, ◌≤◌, ◌<◌, Bool, true, false, cond, List, [], ◌∷◌, ◌++◌, length, length-append, Option, Some, None, ◌⊎◌, inl, inr, refl, sym, ap, ◌∙◌, subst, append_assoc, append-nil, arith}
+use Rattle.std.proofs.Common.{◌≡◌, ℕ, zero, suc, ◌<◌, Bool, true, false, List, [], ◌∷◌, ◌++◌, length, length-append, Option, Some, None, refl, ap, ◌∙◌, append_assoc, arith}
 use Rattle.agxx_base.specs.declared.place.Place.{Place}
 use Rattle.agxx_base.specs.declared.vocabulary.Sign.TheVariants as sg
 use Rattle.agxx_base.specs.declared.vocabulary.SpecialName.{SpecialName}
 use Rattle.cxx_tree.specs.declared.node.Node.{Node}
 use Rattle.cxx_tree.specs.declared.operator.UnOp.TheVariants as un
-use Rattle.cxx_tree.specs.declared.expr.Ref.{Ref}
 use Rattle.cxx_tree.specs.declared.expr.Left.TheVariants as left_of
 use Rattle.cxx_tree.specs.declared.expr.Base.TheVariants as base_of
 use Rattle.cxx_tree.specs.declared.expr.Callee.{Callee}
@@ -15,18 +14,18 @@ use Rattle.cxx_tree.specs.Words as w
 use Rattle.cxx_tree.specs.Words.{Word, separated, each_after_comma, in_parentheses}
 use Rattle.cxx_tree.specs.ExprTree as e
 use Rattle.cxx_tree.specs.ExprTree.{ExprTree, ExprTrees, listed_exprs}
-use Rattle.cxx_tree.specs.Spelling.{ spell_ref, spell_callee, spell_left, spell_expr, spell_each}
+use Rattle.cxx_tree.specs.Spelling.{spell_ref, spell_callee, spell_expr, spell_each}
 use Rattle.cxx_tree.specs.Limits.{Grammar, Opens}
 use Rattle.cxx_tree.specs.Fits.{expr_level, FitsExpr, FitsAll}
 use Rattle.cxx_tree.specs.Blank.{blank_expr, blank_exprs}
-use Rattle.cxx_expr.specs.Tokens.{Tokens, words_of, sees, after}
-use Rattle.cxx_expr.specs.Outcome.{Outcome, done, failed, Parse, and_then}
+use Rattle.cxx_expr.specs.Tokens.{Tokens, words_of, sees}
+use Rattle.cxx_expr.specs.Outcome.{done, Parse}
 use Rattle.cxx_expr.specs.Within.{Within}
 use Rattle.cxx_expr.specs.Descent.{front_of, items_from, items, enclosed, arguments, called}
 use Rattle.cxx_expr.proofs.Turns.{called-call}
 use Rattle.cxx_expr.proofs.Good.{words-append}
 use Rattle.cxx_expr.proofs.States.{before, before-append}
-use Rattle.cxx_expr.proofs.Fronts.{token, front_cons, front_append, front_one, InParens, in_parens, Ends, Ends-close, Ends-comma, sees_in, sees-words}
+use Rattle.cxx_expr.proofs.Fronts.{token, front_cons, front_append, front_one, in_parens, Ends, Ends-close, Ends-comma, sees_in, sees-words}
 
 -- an expression begins with no closing parenthesis
 not_close_ref : (global : Bool) (n : Node) (x : _) (ws : List Word) → sees_in sg.CloseParen (spell_ref (record { node = n; global = global; name = x }) ++ ws) ≡ false

@@ -1,5 +1,5 @@
 -- Tokens by the words that they spell, and what may follow an expression.
-use Rattle.std.proofs.Common.{◌≡◌, ℕ, zero, suc, ◌+◌, ◌-◌, ◌≤◌, ◌<◌, Bool, true, false, cond, List, [], ◌∷◌, ◌++◌, length, Option, Some, None, ◌⊎◌, inl, inr, refl, sym, ap, ◌∙◌, subst, append_assoc, append-nil, arith}
+use Rattle.std.proofs.Common.{◌≡◌, ℕ, suc, ◌≤◌, Bool, false, List, [], ◌∷◌, ◌++◌, None, refl, ap, ◌∙◌, arith}
 use Rattle.agxx_base.specs.declared.place.Place.{Place}
 use Rattle.agxx_base.specs.declared.vocabulary.Sign.{Sign}
 use Rattle.agxx_base.specs.declared.vocabulary.Sign.TheVariants as sg

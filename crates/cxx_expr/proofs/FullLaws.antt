@@ -1,5 +1,5 @@
 -- Full expressions as the layer above reads them: right, and complete.
-use Rattle.std.proofs.Common.{◌≡◌, ℕ, zero, suc, ◌+◌, ◌-◌, ◌≤◌, List, [], ◌∷◌, ◌++◌, Option, Some, None, ◌⊎◌, inl, inr, refl, sym, ap, ◌∙◌, subst, arith}
+use Rattle.std.proofs.Common.{◌≡◌, ℕ, ◌+◌, ◌-◌, ◌≤◌, List, [], ◌∷◌, ◌++◌, Option, Some, None, refl, sym, ap, ◌∙◌, arith}
 use Rattle.agxx_base.specs.declared.vocabulary.SpecialName.{SpecialName}
 use Rattle.cxx_tree.specs.declared.operator.BinOp.{BinOp}
 use Rattle.cxx_tree.specs.declared.operator.UnOp.{UnOp}
@@ -17,7 +17,7 @@ use Rattle.cxx_expr.specs.Outcome.{Outcome, done, failed}
 use Rattle.cxx_expr.specs.Within.{Within, words_left}
 use Rattle.cxx_expr.specs.Descent.{level, inner_at}
 use Rattle.cxx_expr.specs.Full.{full_level}
-use Rattle.cxx_expr.proofs.Good.{Sort, Good, Goods, next}
+use Rattle.cxx_expr.proofs.Good.{Sort, Good, Goods}
 use Rattle.cxx_expr.proofs.States.{tokens, within, before, joins, charge_by, charge, charged}
 use Rattle.cxx_expr.proofs.Sorts.{exprs}
 use Rattle.cxx_expr.proofs.Laws.{good_level_at}

@@ -1,10 +1,9 @@
 -- What a parser answers is right so far: what it read is a spelling, where it stopped no longer front goes on,
 -- and it looked at one word past what it read.
-use Rattle.std.proofs.Common.{◌≡◌, ℕ, Bool, true, false, cond, List, [], ◌∷◌, ◌++◌, Option, Some, None, ◌⊎◌, inl, inr, refl, sym, ap, ◌∙◌, subst, append_assoc, append-nil, arith}
+use Rattle.std.proofs.Common.{◌≡◌, Bool, true, false, cond, List, [], ◌∷◌, ◌++◌, Option, Some, None, ◌⊎◌, inl, inr, refl, sym, ap, ◌∙◌, subst, append_assoc, append-nil}
 use Rattle.agxx_base.specs.declared.vocabulary.Sign.{Sign}
 use Rattle.cxx_tree.specs.declared.node.Placed.{Placed}
 use Rattle.cxx_tree.specs.Words.{Word}
-use Rattle.cxx_expr.specs.declared.stop.Stop.{Stop}
 use Rattle.cxx_expr.specs.declared.stop.Stop.TheVariants.{Syntax, Deep, Memory}
 use Rattle.cxx_expr.specs.Tokens.{Tokens, words_of, is_sign, sees}
 use Rattle.cxx_expr.specs.Outcome.{Outcome, done, failed, Parse, and_then}

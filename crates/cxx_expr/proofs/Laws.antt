@@ -1,8 +1,7 @@
 -- Each rule of the grammar answers right, if what stands in parentheses does.
-use Rattle.std.proofs.Common.{◌≡◌, ℕ, zero, suc, ◌+◌, ◌-◌, ◌≤◌, ◌<◌, Bool, true, false, cond, List, [], ◌∷◌, ◌++◌, length, length-append, Option, Some, None, ◌⊎◌, inl, inr, refl, sym, ap, ◌∙◌, subst, append_assoc, append-nil, arith}
+use Rattle.std.proofs.Common.{◌≡◌, ℕ, zero, suc, ◌≤◌, true, false, List, [], ◌∷◌, ◌++◌, length, Option, Some, None, inl, refl, sym, ap, ◌∙◌, subst, append-nil, arith}
 use Rattle.agxx_base.specs.declared.place.Place.{Place}
 use Rattle.agxx_base.specs.declared.ids.NameId.{NameId}
-use Rattle.agxx_base.specs.declared.kind.NumKind.{NumKind}
 use Rattle.agxx_base.specs.declared.vocabulary.Keyword.{Keyword}
 use Rattle.agxx_base.specs.declared.vocabulary.Keyword.TheVariants as k
 use Rattle.agxx_base.specs.declared.vocabulary.Sign.{Sign}
@@ -23,18 +22,18 @@ use Rattle.cxx_tree.specs.ExprTree.{ExprTree, listed_exprs}
 use Rattle.cxx_tree.specs.Spelling.{unary_sign, spell_name, spell_callee, spell_left, spell_type, spell_base}
 use Rattle.cxx_tree.specs.Limits.{Grammar, Opens}
 use Rattle.cxx_tree.specs.Fits.{expr_level, FitsLeft, IsNumberType}
-use Rattle.cxx_expr.specs.declared.stop.Stop.TheVariants.{Syntax, Deep}
+use Rattle.cxx_expr.specs.declared.stop.Stop.TheVariants.{Syntax}
 use Rattle.cxx_expr.specs.Tokens.{Tokens, sees, after}
-use Rattle.cxx_expr.specs.Outcome.{Outcome, done, failed, Parse, and_then, expect}
+use Rattle.cxx_expr.specs.Outcome.{done, failed, Parse, and_then}
 use Rattle.cxx_expr.specs.Lefts.{node_at, name, target, selected, left_by}
 use Rattle.cxx_expr.specs.Within.{Within, on_words, advanced, operator_taken_by}
-use Rattle.cxx_expr.specs.Descent.{closed, items, prefix_operator, number_type, opened_by, enclosed, arguments, called, named, grouped, converted, own, created_with, created, converted_by, keyword_by, sign_by, primary_by, primary_of, primary, operated, unary_from, unary, chain, level, expr, inner_at}
+use Rattle.cxx_expr.specs.Descent.{closed, items, prefix_operator, opened_by, enclosed, arguments, called, named, grouped, converted, own, created_with, created, keyword_by, sign_by, primary_by, primary_of, primary, operated, unary, chain, level, expr, inner_at}
 use Rattle.cxx_expr.proofs.Turns.{expr-is, by_prefix, unary-is, unary-primary, unary-prefix}
-use Rattle.cxx_expr.proofs.Good.{Sort, Good, Goods, IsViable, next, head, sees-head, good_done, good_fail, good_shift, good_again, good_if, good_bind, good_through, good_as}
-use Rattle.cxx_expr.proofs.States.{tokens, within, before, joins, charge, sees-before, each, good_lifted, good_on_words}
-use Rattle.cxx_expr.proofs.Names.{names, callees, default_name, default_ref, good_name, good_selected, good_target, free-callee}
+use Rattle.cxx_expr.proofs.Good.{Sort, Good, Goods, IsViable, head, good_done, good_fail, good_shift, good_again, good_if, good_bind, good_through, good_as}
+use Rattle.cxx_expr.proofs.States.{within, before, joins, charge, sees-before, good_lifted, good_on_words}
+use Rattle.cxx_expr.proofs.Names.{names, callees, default_name, good_name, good_selected, good_target, free-callee}
 use Rattle.cxx_expr.proofs.Operators.{unary_token, charge-unary, prefix-again, prefix-is, prefix-head}
-use Rattle.cxx_expr.proofs.Sorts.{default, exprs, enclosures, lists, Fits-weaken, Fits-deeper}
+use Rattle.cxx_expr.proofs.Sorts.{default, exprs, enclosures, lists, Fits-weaken}
 use Rattle.cxx_expr.proofs.Arguments.{good_closed, good_items}
 use Rattle.cxx_expr.proofs.Chains.{good_chain}
 

@@ -1,24 +1,22 @@
 -- The rules for names and references answer right.
-use Rattle.std.proofs.Common.{◌≡◌, ℕ, Bool, true, false, cond, List, [], ◌∷◌, ◌++◌, Option, Some, None, ◌⊎◌, inl, inr, refl, sym, ap, ◌∙◌, subst, append_assoc, append-nil, arith}
+use Rattle.std.proofs.Common.{◌≡◌, Bool, true, false, cond, List, [], ◌∷◌, ◌++◌, Option, Some, None, inl, refl, sym, ap, ◌∙◌, subst, append-nil}
 use Rattle.agxx_base.specs.declared.place.Place.{Place}
 use Rattle.agxx_base.specs.declared.ids.NameId.{NameId}
 use Rattle.agxx_base.specs.declared.vocabulary.Sign.TheVariants as sg
-use Rattle.agxx_base.specs.declared.vocabulary.Keyword.TheVariants as k
 use Rattle.cxx_tree.specs.declared.node.Placed.{Placed}
 use Rattle.cxx_tree.specs.declared.expr.Ref.{Ref}
-use Rattle.cxx_tree.specs.declared.expr.Selector.{Selector}
 use Rattle.cxx_tree.specs.declared.expr.Base.{Base}
 use Rattle.cxx_tree.specs.declared.expr.Base.TheVariants as base_of
 use Rattle.cxx_tree.specs.declared.expr.Callee.{Callee}
 use Rattle.cxx_tree.specs.declared.expr.Callee.TheVariants as callee_of
 use Rattle.cxx_tree.specs.Words as w
 use Rattle.cxx_tree.specs.Words.{Word}
-use Rattle.cxx_tree.specs.Spelling.{spell_name, spell_ref, spell_base, spell_selector, spell_callee}
-use Rattle.cxx_expr.specs.declared.stop.Stop.TheVariants.{Syntax, Deep, Memory}
-use Rattle.cxx_expr.specs.Tokens.{Tokens, words_of, sees, after}
-use Rattle.cxx_expr.specs.Outcome.{Outcome, done, failed, Parse, and_then}
-use Rattle.cxx_expr.specs.Lefts.{node_at, name_by, name, past_colons, reference, selected, selected_of, target}
-use Rattle.cxx_expr.proofs.Good.{Sort, Good, Goods, IsViable, next, head, sees-head, good_done, good_fail, good_shift, good_again, good_if, good_bind}
+use Rattle.cxx_tree.specs.Spelling.{spell_name, spell_ref, spell_base, spell_callee}
+use Rattle.cxx_expr.specs.declared.stop.Stop.TheVariants.{Syntax}
+use Rattle.cxx_expr.specs.Tokens.{Tokens, sees, after}
+use Rattle.cxx_expr.specs.Outcome.{Outcome, done, failed, and_then}
+use Rattle.cxx_expr.specs.Lefts.{node_at, name_by, name, reference, selected, selected_of, target}
+use Rattle.cxx_expr.proofs.Good.{Sort, Good, Goods, head, sees-head, good_done, good_fail, good_shift, good_again, good_if, good_bind}
 use Rattle.cxx_expr.proofs.States.{tokens, each, IsFree, sees-sign}
 
 abbrev pub default_name : Placed NameId

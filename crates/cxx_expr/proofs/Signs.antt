@@ -1,6 +1,5 @@
 -- Two signs are the same where their ranks are.
-use Rattle.std.proofs.Common.{◌≡◌, ℕ, Bool, true, false, List, [], ◌∷◌, refl, sym, ap, ◌∙◌, slice_index_or, rules, ◌↔◌}
-use Rattle.std.specs.Prelude.{IsTrue, nat_eq}
+use Rattle.std.proofs.Common.{◌≡◌, true, List, [], ◌∷◌, refl, sym, ap, ◌∙◌, slice_index_or}
 use Rattle.std.proofs.lemmas.Bool.{eqb-true}
 use Rattle.agxx_base.specs.declared.vocabulary.Sign.{Sign}
 use Rattle.agxx_base.specs.declared.vocabulary.Sign.TheVariants as sg

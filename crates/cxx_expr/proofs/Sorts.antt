@@ -1,51 +1,18 @@
 -- Expressions, lists of arguments and parts in parentheses as what rules read.
-use Rattle.std.proofs.Common.{◌≡◌, ℕ, zero, suc, ◌+◌, ◌-◌, ◌≤◌, ◌<◌, Bool, true, false, List, [], ◌∷◌, ◌++◌, Option, Some, None, refl, sym, ap, ◌∙◌, subst, append_assoc, append-nil, arith}
+use Rattle.std.proofs.Common.{◌≡◌, ℕ, suc, List, [], ◌∷◌, ◌++◌, refl, append_assoc, arith}
 use Rattle.agxx_base.specs.declared.kind.NumKind.TheVariants as num
 use Rattle.agxx_base.specs.declared.vocabulary.Sign.TheVariants as sg
 use Rattle.agxx_base.specs.declared.vocabulary.SpecialName.{SpecialName}
-use Rattle.cxx_tree.specs.declared.node.Node.{Node}
-use Rattle.cxx_tree.specs.declared.expr.Left.{Left}
-use Rattle.cxx_tree.specs.declared.expr.Left.TheVariants as left_of
 use Rattle.cxx_tree.specs.Words as w
 use Rattle.cxx_tree.specs.Words.{Word, separated, each_after_comma, in_parentheses}
 use Rattle.cxx_tree.specs.ExprTree as e
 use Rattle.cxx_tree.specs.ExprTree.{ExprTree, ExprTrees, CallTree, listed_exprs}
 use Rattle.cxx_tree.specs.Spelling.{spell_expr, spell_each}
 use Rattle.cxx_tree.specs.Limits.{Grammar, Opens}
-use Rattle.cxx_tree.specs.Fits.{level_of, expr_level, FitsLeft, FitsExpr, FitsAll, FitsCall}
+use Rattle.cxx_tree.specs.Fits.{expr_level, FitsExpr, FitsAll}
 use Rattle.cxx_expr.proofs.Good.{Sort}
 
 module _ (g : Grammar) where
-  pub Opens-deeper : (Holds : ℕ → Type 0) → ((a b : ℕ) → a ≤ b → Holds a → Holds b) → (depth deeper : ℕ) → depth ≤ deeper → Opens depth Holds → Opens deeper Holds
-  Opens-deeper Holds mono depth deeper h v = (deeper - 1, omega (arith, h, v.1), mono v.0 (deeper - 1) (omega (arith, h, v.1)) v.2)
-
-  pub left-deeper : (l : Left) (depth deeper : ℕ) → depth ≤ deeper → FitsLeft g depth l → FitsLeft g deeper l
-  left-deeper (left_of.Name r) depth deeper h v = tt
-  left-deeper (left_of.Member n s) depth deeper h v = tt
-  left-deeper (left_of.Result n) depth deeper h v = (v.0, Opens-deeper (λ below. Unit {0}) (λ a b i u. tt) depth deeper h v.1)
-
-  abbrev mutual
-    pub Fits-deeper : (t : ExprTree) (depth deeper l : ℕ) → depth ≤ deeper → FitsExpr g depth l t → FitsExpr g deeper l t
-    Fits-deeper (e.lit n value) depth deeper l h v = tt
-    Fits-deeper (e.flag n is_set) depth deeper l h v = tt
-    Fits-deeper (e.null n) depth deeper l h v = tt
-    Fits-deeper (e.this n) depth deeper l h v = tt
-    Fits-deeper (e.left part) depth deeper l h v = left-deeper part depth deeper h v
-    Fits-deeper (e.unary n o operand) depth deeper l h v = Fits-deeper operand depth deeper 0 h v
-    Fits-deeper (e.binary n o a b) depth deeper l h v = (v.0, Fits-deeper a depth deeper _ h v.1, Fits-deeper b depth deeper _ h v.2)
-    Fits-deeper (e.paren n inner) depth deeper l h v = (deeper - 1, omega (arith, h, v.1), Fits-deeper inner v.0 (deeper - 1) expr_level (omega (arith, h, v.1)) v.2)
-    Fits-deeper (e.cast n t operand) depth deeper l h v = (v.0, (deeper - 1, omega (arith, h, v.1.1), Fits-deeper operand v.1.0 (deeper - 1) expr_level (omega (arith, h, v.1.1)) v.1.2))
-    Fits-deeper (e.call c) depth deeper l h v = call-deeper c depth deeper h v
-    Fits-deeper (e.new n class) depth deeper l h v = tt
-    Fits-deeper (e.new_with n class xs) depth deeper l h v = (deeper - 1, omega (arith, h, v.1), All-deeper xs v.0 (deeper - 1) (omega (arith, h, v.1)) v.2)
-
-    pub All-deeper : (xs : ExprTrees) (depth deeper : ℕ) → depth ≤ deeper → FitsAll g depth xs → FitsAll g deeper xs
-    All-deeper e.no_exprs depth deeper h v = tt
-    All-deeper (e.more_exprs x xs) depth deeper h v = (Fits-deeper x depth deeper expr_level h v.0, All-deeper xs depth deeper h v.1)
-
-    pub call-deeper : (c : CallTree) (depth deeper : ℕ) → depth ≤ deeper → FitsCall g depth c → FitsCall g deeper c
-    call-deeper (e.calls n callee xs) depth deeper h v = (deeper - 1, omega (arith, h, v.1), All-deeper xs v.0 (deeper - 1) (omega (arith, h, v.1)) v.2)
-
   pub Fits-weaken : (depth l : ℕ) (t : ExprTree) → FitsExpr g depth l t → FitsExpr g depth (suc l) t
   Fits-weaken depth l (e.lit n value) v = tt
   Fits-weaken depth l (e.flag n is_set) v = tt

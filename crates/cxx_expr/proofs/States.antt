@@ -1,22 +1,19 @@
 -- How the two kinds of states are read: tokens alone, and tokens with the operators that a full expression may still
 -- have, of which each operator among the tokens takes one.
-use Rattle.std.proofs.Common.{◌≡◌, ℕ, suc, Bool, true, false, cond, List, [], ◌∷◌, ◌++◌, Option, Some, None, ◌⊎◌, inl, inr, refl, sym, ap, ◌∙◌, subst, append_assoc, append-nil, arith}
+use Rattle.std.proofs.Common.{◌≡◌, ℕ, suc, Bool, true, false, cond, List, [], ◌∷◌, ◌++◌, Option, Some, None, inl, inr, refl, sym, ap, ◌∙◌, subst, append_assoc}
 use Rattle.agxx_base.specs.declared.place.Place.{Place}
 use Rattle.agxx_base.specs.declared.vocabulary.Sign.{Sign}
-use Rattle.agxx_base.specs.declared.vocabulary.Sign.TheVariants as sg
-use Rattle.cxx_tree.specs.declared.node.Placed.{Placed}
 use Rattle.cxx_tree.specs.declared.operator.BinOp.{BinOp}
 use Rattle.cxx_tree.specs.declared.operator.UnOp.{UnOp}
 use Rattle.cxx_tree.specs.Words as w
 use Rattle.cxx_tree.specs.Words.{Word}
-use Rattle.cxx_expr.specs.declared.stop.Stop.{Stop}
 use Rattle.cxx_expr.specs.declared.stop.Stop.TheVariants.{Syntax, Deep, Memory}
 use Rattle.cxx_expr.specs.Operators.{binary_of, unary_of}
 use Rattle.cxx_expr.specs.Tokens.{Tokens, words_of, is_sign, sees, after}
-use Rattle.cxx_expr.specs.Outcome.{Outcome, done, failed, Parse, and_then, expect}
+use Rattle.cxx_expr.specs.Outcome.{Outcome, done, failed, Parse, expect}
 use Rattle.cxx_expr.specs.Within.{Within, with_operators, on_words, advanced}
 use Rattle.cxx_expr.proofs.Signs.{same_sign-true, same_sign-self}
-use Rattle.cxx_expr.proofs.Good.{Reading, Sort, Good, Goods, IsViable, next, head, words-append, sees-head, good_done, good_fail, good_bind}
+use Rattle.cxx_expr.proofs.Good.{Reading, Sort, Good, Goods, words-append, sees-head, good_fail}
 
 abbrev pub tokens : Reading Tokens
 tokens = record {

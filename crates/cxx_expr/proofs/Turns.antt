@@ -1,5 +1,5 @@
 -- One turn of each loop, and each rule that goes by cases, by its definition.
-use Rattle.std.proofs.Common.{◌≡◌, ℕ, zero, suc, ◌+◌, ◌-◌, ◌≤◌, ◌<◌, Bool, true, false, cond, List, [], ◌∷◌, ◌++◌, length, Option, Some, None, refl, sym, ap, ◌∙◌, arith, append_assoc, subst, map}
+use Rattle.std.proofs.Common.{◌≡◌, ℕ, zero, suc, ◌-◌, ◌≤◌, ◌<◌, true, false, List, [], ◌∷◌, ◌++◌, length, Option, Some, None, refl, sym, ap, ◌∙◌, arith, append_assoc, subst, map}
 use Rattle.agxx_base.specs.declared.place.Place.{Place}
 use Rattle.agxx_base.specs.declared.ids.NameId.{NameId}
 use Rattle.agxx_base.specs.declared.vocabulary.Sign.{Sign}
@@ -12,12 +12,11 @@ use Rattle.cxx_tree.specs.declared.expr.Callee.{Callee}
 use Rattle.cxx_tree.specs.ExprTree.{ExprTree, call, calls, new_with, listed_exprs}
 use Rattle.cxx_tree.specs.Fits.{expr_level}
 use Rattle.cxx_expr.specs.declared.stop.Stop.{Stop}
-use Rattle.cxx_expr.specs.declared.stop.Stop.TheVariants.{Syntax}
 use Rattle.cxx_expr.specs.Tokens.{Tokens, sees, after}
-use Rattle.cxx_expr.specs.Outcome.{Outcome, done, failed, Parse, and_then, expect}
+use Rattle.cxx_expr.specs.Outcome.{Outcome, done, failed, Parse, and_then}
 use Rattle.cxx_expr.specs.Lefts.{node_at}
-use Rattle.cxx_expr.specs.Within.{Within, on_words, advanced, operator_taken, operator_taken_by}
-use Rattle.cxx_expr.specs.Descent.{operator, prefix_operator, joined, go_on, chain, front_of, closed, items_more, items_from, inner_at, enclosed, arguments, called, created_with, operated, primary, unary_from, unary, level, expr}
+use Rattle.cxx_expr.specs.Within.{Within, advanced, operator_taken, operator_taken_by}
+use Rattle.cxx_expr.specs.Descent.{operator, prefix_operator, joined, chain, front_of, closed, items_from, inner_at, enclosed, arguments, called, created_with, operated, primary, unary_from, unary, level, expr}
 
 pub length-after : (ts : Tokens) → length (after ts) ≡ length ts - 1
 length-after [] = omega arith

@@ -1,5 +1,5 @@
 -- How an expression with a list of arguments is seen.
-use Rattle.std.proofs.Common.{◌≡◌, List, map, Some, sym, ap, ◌∙◌}
+use Rattle.std.proofs.Common.{◌≡◌, List, Some, sym, ap, ◌∙◌}
 use Rattle.agxx_base.specs.declared.ids.NameId.{NameId}
 use Rattle.cxx_tree.specs.declared.node.Node.{Node}
 use Rattle.cxx_tree.specs.declared.node.Placed.{Placed}
@@ -9,7 +9,7 @@ use Rattle.cxx_tree.specs.declared.expr.Expr.TheVariants as variant
 use Rattle.cxx_tree.specs.declared.expr.Expr.TheVariants.{rolls-Call, rolls-New}
 use Rattle.cxx_tree.specs.declared.expr.Expr.TheOpen.{Expr-F, Call-F}
 use Rattle.cxx_tree.specs.declared.expr.Expr.TheFolds.{fold-Expr, fold-Call, fold-roll-Expr, fold-roll-Call}
-use Rattle.cxx_tree.specs.ExprTree.{ExprTree, CallTree, call, calls, new_with, expr_step, call_step, expr_tree, listed_exprs, exprs_tree}
+use Rattle.cxx_tree.specs.ExprTree.{ExprTree, CallTree, call, calls, new_with, expr_step, call_step, expr_tree, exprs_tree}
 
 call-step : (c : Call) → expr_tree (variant.Call c) ≡ call (fold-Call ExprTree CallTree expr_step call_step c)
 call-step c = ap (fold-Expr ExprTree CallTree expr_step call_step) (sym (rolls-Call c)) ∙ fold-roll-Expr ExprTree CallTree expr_step call_step (Expr-F.Call c)

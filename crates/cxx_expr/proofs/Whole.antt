@@ -1,15 +1,13 @@
 -- What an expression that is all the words says, and what a refusal does.
-use Rattle.std.proofs.Common.{◌≡◌, ◌≢◌, ℕ, Bool, true, false, zero, suc, ◌+◌, ◌-◌, ◌≤◌, List, [], ◌∷◌, ◌++◌, take, drop, length, length-append, map, Option, Some, None, ◌⊎◌, inl, inr, refl, sym, ap, ◌∙◌, subst, append_assoc, append-nil, arith}
+use Rattle.std.proofs.Common.{◌≡◌, ℕ, Bool, true, false, ◌+◌, ◌-◌, ◌≤◌, List, [], ◌∷◌, ◌++◌, take, drop, length, length-append, map, Some, ◌⊎◌, inl, inr, refl, sym, ap, ◌∙◌, subst, append_assoc, append-nil, arith}
 use Rattle.std.proofs.lemmas.List.{append_cancel_right, length-map}
 use Rattle.std.proofs.Math.Seq.{take-append_seam, drop-append_seam}
 use Rattle.agxx_base.specs.declared.vocabulary.SpecialName.{SpecialName}
 use Rattle.agxx_base.specs.declared.vocabulary.Sign.TheVariants as sg
 use Rattle.cxx_tree.specs.declared.node.Node.{Node}
 use Rattle.cxx_tree.specs.declared.node.Placed.{Placed}
-use Rattle.cxx_tree.specs.declared.operator.UnOp.{UnOp}
 use Rattle.cxx_tree.specs.declared.expr.Left.{Left}
 use Rattle.cxx_tree.specs.declared.expr.Left.TheVariants as left_of
-use Rattle.cxx_tree.specs.declared.expr.Callee.{Callee}
 use Rattle.cxx_tree.specs.declared.expr.Callee.TheVariants as callee_of
 use Rattle.cxx_tree.specs.declared.program.TypeName.{TypeName}
 use Rattle.cxx_tree.specs.declared.program.TypeName.TheVariants as type_of
@@ -17,25 +15,26 @@ use Rattle.cxx_tree.specs.Words as w
 use Rattle.cxx_tree.specs.Words.{Word, separated, each_after_comma, in_parentheses}
 use Rattle.cxx_tree.specs.ExprTree as e
 use Rattle.cxx_tree.specs.ExprTree.{ExprTree, ExprTrees}
-use Rattle.cxx_tree.specs.Spelling.{binary_sign, unary_sign, spell_ref, spell_left, spell_callee, spell_type, spell_expr, spell_each}
+use Rattle.cxx_tree.specs.Spelling.{binary_sign, spell_ref, spell_left, spell_callee, spell_type, spell_expr, spell_each}
 use Rattle.cxx_tree.specs.Limits.{Grammar, HasAdviceForms, written}
 use Rattle.cxx_tree.specs.Fits.{expr_level, operators_in, operators_in_all, FitsLeft, FitsExpr, FitsAll, FitsFull, IsNumberType}
 use Rattle.cxx_tree.specs.Blank.{blank_expr}
+use Rattle.cxx_tree.proofs.Larger.{expr-larger}
 use Rattle.cxx_expr.specs.declared.stop.Stop.{Stop}
 use Rattle.cxx_expr.specs.declared.stop.Stop.TheVariants.{Syntax, Deep, Memory}
 use Rattle.cxx_expr.specs.Tokens.{Tokens, words_of}
 use Rattle.cxx_expr.specs.Outcome.{Outcome, done, failed, and_then}
 use Rattle.cxx_expr.specs.Within.{Within, words_left}
-use Rattle.cxx_expr.specs.Descent.{expr, inner_at, level}
+use Rattle.cxx_expr.specs.Descent.{expr}
 use Rattle.cxx_expr.specs.Full.{most_operators, full_level, full_expr}
 use Rattle.cxx_expr.specs.Whole.{IsExpr, IsNone, IsViable, StopsAt, ended, whole}
 use Rattle.cxx_expr.proofs.Turns.{expr-is}
-use Rattle.cxx_expr.proofs.Good.{Good, head, next, words-append}
+use Rattle.cxx_expr.proofs.Good.{Good, head, words-append}
 use Rattle.cxx_expr.proofs.Good.{IsViable as IsFront}
-use Rattle.cxx_expr.proofs.States.{within, before, before-append, joins, charge, charged, charged-append, free-charged}
+use Rattle.cxx_expr.proofs.States.{within, before, before-append, joins, charged, charged-append, free-charged}
 use Rattle.cxx_expr.proofs.Names.{free-ref, free-callee}
 use Rattle.cxx_expr.proofs.Operators.{charge-binary, charge-unary}
-use Rattle.cxx_expr.proofs.Sorts.{default, exprs, Fits-deeper}
+use Rattle.cxx_expr.proofs.Sorts.{default, exprs}
 use Rattle.cxx_expr.proofs.Laws.{good_expr}
 use Rattle.cxx_expr.proofs.Fronts.{token, front_cons, Ends-nil}
 use Rattle.cxx_expr.proofs.Complete.{expr-full}
@@ -144,8 +143,8 @@ spelling-unique special a b depth depth' u v h =
     let ts : Tokens = map blank_token (spell_expr special a) in
     let d : ℕ = depth + depth' in
     let i : words_of ts ≡ spell_expr special a = words-map (spell_expr special a) in
-    let r = expr-full special written no_forms d a ts (joins [] 0) (Fits-deeper written a depth d expr_level (omega arith) u) i (Ends-nil expr_level) in
-    let q = expr-full special written no_forms d b ts (joins [] 0) (Fits-deeper written b depth' d expr_level (omega arith) v) (i ∙ h) (Ends-nil expr_level) in
+    let r = expr-full special written no_forms d a ts (joins [] 0) (expr-larger written depth d (omega arith) expr_level a u) i (Ends-nil expr_level) in
+    let q = expr-full special written no_forms d b ts (joins [] 0) (expr-larger written depth' d (omega arith) expr_level b v) (i ∙ h) (Ends-nil expr_level) in
     let both : done r.0 (joins [] 0) ≡ done q.0 (joins [] 0) = sym r.2 ∙ q.2 in
     let same : r.0 ≡ q.0 = cc in
     sym r.1 ∙ ap blank_expr same ∙ q.1
@@ -163,7 +162,7 @@ module _ (special : SpecialName → ℕ) where
       let tail : Tokens = next_token ∷ others in
       let spelled : words_of (front ++ tail) ≡ spell_expr special v.0 =
           words-append front tail ∙ ap (λ q. words_of front ++ next_token.item ∷ q) (words-map v.2) ∙ sym (append_assoc (words_of front) (next_token.item ∷ []) v.2) ∙ sym v.4 in
-      let r = expr-full special written no_forms deeper v.0 (front ++ tail) (joins [] 0) (Fits-deeper written v.0 v.1 deeper expr_level (omega arith) v.3) spelled (Ends-nil expr_level) in
+      let r = expr-full special written no_forms deeper v.0 (front ++ tail) (joins [] 0) (expr-larger written v.1 deeper (omega arith) expr_level v.0 v.3) spelled (Ends-nil expr_level) in
       let cut : before front (joins tail (charged (words_of tail) 0)) ≡ before (front ++ tail) (joins [] 0) =
           ap (λ q. before front (joins q (charged (words_of tail) 0))) (sym (append-nil tail)) ∙ sym (before-append front tail (joins [] 0)) in
       never deeper (omega arith) others r.0 (ap (expr deeper) cut ∙ r.2)

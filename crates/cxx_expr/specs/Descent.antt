@@ -1,5 +1,5 @@
 -- The descent over the words of an expression: what the code computes.
-use Rattle.std.specs.Prelude.{ℕ, zero, suc, ◌+◌, Bool, true, false, if◌then◌else◌, nat_eq, List, [], ◌∷◌, ◌++◌, length, Option, Some, None}
+use Rattle.std.specs.Prelude.{ℕ, zero, suc, true, false, if◌then◌else◌, nat_eq, List, [], ◌∷◌, ◌++◌, length, Option, Some, None}
 use Rattle.agxx_base.specs.declared.place.Place.{Place}
 use Rattle.agxx_base.specs.declared.ids.NameId.{NameId}
 use Rattle.agxx_base.specs.declared.vocabulary.Keyword.{Keyword}
@@ -25,7 +25,7 @@ use Rattle.cxx_expr.specs.Tokens.{Tokens, sees, after}
 use Rattle.cxx_expr.specs.Operators.{binary_of, unary_of}
 use Rattle.cxx_expr.specs.Outcome.{Outcome, done, failed, Parse, and_then, expect}
 use Rattle.cxx_expr.specs.Lefts.{node_at, name, target, selected, left_by}
-use Rattle.cxx_expr.specs.Within.{Within, on_words, advanced, operator_taken, operator_taken_by}
+use Rattle.cxx_expr.specs.Within.{Within, on_words, advanced, operator_taken}
 
 -- ---- operators
 

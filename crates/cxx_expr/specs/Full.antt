@@ -3,9 +3,9 @@ use Rattle.std.specs.Prelude.{ℕ}
 use Rattle.cxx_tree.specs.ExprTree.{ExprTree}
 use Rattle.cxx_tree.specs.Fits.{expr_level, sum_level}
 use Rattle.cxx_expr.specs.Tokens.{Tokens}
-use Rattle.cxx_expr.specs.Outcome.{Outcome, Parse}
+use Rattle.cxx_expr.specs.Outcome.{Parse}
 use Rattle.cxx_expr.specs.Within.{full}
-use Rattle.cxx_expr.specs.Descent.{level, expr, inner_at}
+use Rattle.cxx_expr.specs.Descent.{level, inner_at}
 
 -- how many operators a full expression may have
 abbrev pub most_operators : ℕ

@@ -1,5 +1,5 @@
 -- Names, references to names, and what may stand on the left of an assignment or be called. Nodes have the number 0.
-use Rattle.std.specs.Prelude.{Bool, true, false, if◌then◌else◌, List, [], ◌∷◌}
+use Rattle.std.specs.Prelude.{if◌then◌else◌, [], ◌∷◌}
 use Rattle.agxx_base.specs.declared.place.Place.{Place}
 use Rattle.agxx_base.specs.declared.ids.NameId.{NameId}
 use Rattle.agxx_base.specs.declared.vocabulary.Sign.TheVariants as sg
@@ -16,7 +16,7 @@ use Rattle.cxx_tree.specs.Words as w
 use Rattle.cxx_tree.specs.Words.{Word}
 use Rattle.cxx_expr.specs.declared.stop.Stop.TheVariants.{Syntax}
 use Rattle.cxx_expr.specs.Tokens.{Tokens, sees, after}
-use Rattle.cxx_expr.specs.Outcome.{Outcome, done, failed, Parse, and_then}
+use Rattle.cxx_expr.specs.Outcome.{done, failed, Parse, and_then}
 
 -- a node as it is read
 abbrev pub node_at : Place → Node

@@ -1,6 +1,5 @@
 -- Words with their places, as a parser is given them.
-use Rattle.std.specs.Prelude.{ℕ, Bool, false, List, [], ◌∷◌, Option, Some, None, map}
-use Rattle.agxx_base.specs.declared.place.Place.{Place}
+use Rattle.std.specs.Prelude.{Bool, false, List, [], ◌∷◌, Option, Some, None, map}
 use Rattle.agxx_base.specs.declared.vocabulary.Sign.{Sign}
 use Rattle.cxx_tree.specs.declared.node.Placed.{Placed}
 use Rattle.cxx_tree.specs.Words as w

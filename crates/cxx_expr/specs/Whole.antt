@@ -12,7 +12,7 @@ use Rattle.cxx_expr.specs.declared.stop.Stop.TheVariants.{Syntax}
 use Rattle.cxx_expr.specs.declared.read.Unread.{Unread}
 use Rattle.cxx_expr.specs.declared.read.Unread.TheVariants as unread
 use Rattle.cxx_expr.specs.Tokens.{Tokens}
-use Rattle.cxx_expr.specs.Outcome.{Outcome, done, failed, Parse, and_then}
+use Rattle.cxx_expr.specs.Outcome.{done, failed, Parse, and_then}
 use Rattle.cxx_expr.specs.Full.{most_operators, full_expr}
 
 -- a full expression in which parentheses nest no deeper than this, and its words

@@ -1,5 +1,5 @@
 -- Where a parser stands within a full expression.
-use Rattle.std.specs.Prelude.{ℕ, zero, suc, Option, Some, None}
+use Rattle.std.specs.Prelude.{ℕ, zero, suc}
 use Rattle.cxx_expr.specs.declared.stop.Stop.TheVariants.{Deep}
 use Rattle.cxx_expr.specs.Tokens.{Tokens, after}
 use Rattle.cxx_expr.specs.Outcome.{Outcome, done, failed, Parse}

@@ -1,9 +1,9 @@
-use Rattle.std.proofs.Common.{◌≡◌, ◌≢◌, ◌+◌, length, ap, sym, subst, ◌∙◌, arith}
+use Rattle.std.proofs.Common.{◌≡◌, ◌≢◌, length, ap, sym, subst, ◌∙◌, arith}
 use Rattle.std.proofs.lemmas.List.{length-map}
 use Rattle.cxx_tree.specs.ExprTree.{expr_tree}
 use Rattle.cxx_expr.specs.declared.stop.Stop.TheVariants.{Syntax, Deep, Memory}
 use Rattle.cxx_expr.specs.Tokens.{tokens_of, token_of, words_of}
-use Rattle.cxx_expr.specs.Outcome.{done, failed}
+use Rattle.cxx_expr.specs.Outcome.{failed}
 use Rattle.cxx_expr.specs.Whole.{whole, IsExpr}
 use Rattle.cxx_expr.proofs.Whole.{whole-done, whole-none, whole-stops}
 use Rattle.cxx_expr.proofs.read.read_expr.Goals as goal

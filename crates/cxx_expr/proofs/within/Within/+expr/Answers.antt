@@ -1,11 +1,11 @@
-use Rattle.std.proofs.Common.{◌≡◌, ◌≤◌, length, map, ℕ, suc, ◌+◌, ◌-◌, ◌∙◌, sym, ap, rules, arith, Bool, true, false, List, [], ◌∷◌}
+use Rattle.std.proofs.Common.{◌≡◌, length, map, ◌-◌, ◌∙◌, sym, ap, arith, true, false, [], ◌∷◌}
 use Rattle.std.proofs.lemmas.Result.{err_from_is_err_and}
 use Rattle.agxx_base.specs.declared.vocabulary.Sign.TheVariants as sg
 use Rattle.cxx_tree.specs.ExprTree.{expr_tree, exprs_tree, new_with}
 use Rattle.cxx_expr.specs.Tokens.{sees}
 use Rattle.cxx_expr.specs.Outcome.{done, and_then}
-use Rattle.cxx_expr.specs.Descent.{chain, level, expr, inner_at, items, items_from, front_of}
-use Rattle.cxx_expr.proofs.Turns.{expr-is, level-step, chain-stop, chain-turn, chain-fail, chain-full, length-after, some-operator, true-sees, items-fail, items-more, items-last, front_of-front_of, map-push, unary-primary, enclosed-closes, called-call, created_with-arguments}
+use Rattle.cxx_expr.specs.Descent.{chain, level, expr, inner_at, items_from, front_of}
+use Rattle.cxx_expr.proofs.Turns.{expr-is, level-step, chain-stop, chain-turn, chain-fail, chain-full, true-sees, items-fail, items-more, items-last, front_of-front_of, map-push, unary-primary, enclosed-closes, called-call, created_with-arguments}
 use Rattle.cxx_expr.proofs.Views.{call-is, new_with-is}
 use Rattle.cxx_expr.proofs.within.Within.+expr.Goals as goal
 

@@ -1,4 +1,4 @@
-use Rattle.std.proofs.Common.{◌≡◌, ◌≤◌, length, map, ℕ, ◌+◌, ◌-◌, ◌*◌, ◌<◌, suc}
+use Rattle.std.proofs.Common.{◌≡◌, ◌≤◌, length, map, ℕ, ◌+◌, ◌-◌, ◌*◌, ◌<◌}
 use Rattle.cxx_tree.specs.ExprTree.{expr_tree}
 use Rattle.cxx_expr.specs.Descent as grammar
 use Rattle.cxx_expr.specs.Descent.{inner_at, front_of, items_from, chain}
