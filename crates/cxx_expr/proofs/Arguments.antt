@@ -81,8 +81,12 @@ module _ (special : SpecialName → ℕ) (g : Grammar) (below : ℕ) (p p' : Par
   next_item n x rest v others =
       good_then within (E.spelled x) T F AgR (λ ys q r. done (x ∷ ys) q ≡ r) (AgM x)
       (λ ys front other r a f m lt. ap (front_of (x ∷ [])) (a m lt) ∙ f) (λ q us a m lt. ap (front_of (x ∷ [])) (a m lt)) [] (0, tt)
-      (λ ys u. (x ∷ ys, [], (below + u.0, (expr-larger g below (below + u.0) (omega arith) expr_level x v, all_exprs-larger g u.0 (below + u.0) (omega arith) (listed_exprs ys) u.1)),
-      spell-cons special g x ys ∙ sym (append-nil (E.spelled x ++ T.spelled ys))))
+      (λ ys u. (
+        x ∷ ys,
+        [],
+        (below + u.0, (expr-larger g below (below + u.0) (omega arith) expr_level x v, all_exprs-larger g u.0 (below + u.0) (omega arith) (listed_exprs ys) u.1)),
+        spell-cons special g x ys ∙ sym (append-nil (E.spelled x ++ T.spelled ys)),
+      ))
       (λ ys. done (x ∷ ys)) rest (items_more (λ q. items_from p n q) rest)
       (good_more n rest others)
       (λ ys q front u e. good_done within (E.spelled x ++ T.spelled ys) F (λ q r. done (x ∷ ys) q ≡ r) q (x ∷ ys) (v, u) (spell-cons special g x ys) (λ other h. refl))

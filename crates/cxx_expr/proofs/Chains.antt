@@ -59,8 +59,12 @@ module _ (special : SpecialName → ℕ) (g : Grammar) (depth l : ℕ) (p p' : P
       (λ second front other r q f m lt. rw q (f m (omega (arith, lt, length-append front other.words))))
       (λ q rest i m lt. rw i refl)
       default (0, tt)
-      (λ second u. (joined o sofar second, [], (depth + u.0, fits_joined (depth + u.0) o sofar second e (expr-larger g depth (depth + u.0) (omega arith) (suc l) sofar v) (expr-larger g u.0 (depth + u.0) (omega arith) l second u.1)),
-      spelled o sofar second ∙ sym (append-nil (pre ++ K.spelled second))))
+      (λ second u. (
+        joined o sofar second,
+        [],
+        (depth + u.0, fits_joined (depth + u.0) o sofar second e (expr-larger g depth (depth + u.0) (omega arith) (suc l) sofar v) (expr-larger g u.0 (depth + u.0) (omega arith) l second u.1)),
+        spelled o sofar second ∙ sym (append-nil (pre ++ K.spelled second)),
+      ))
       (λ second. chain p (suc l) n (joined o sofar second)) s (p s) (G s)
       (λ second rest front u q. subst (λ t. Good within t K (AgC (joined o sofar second)) rest (chain p (suc l) n (joined o sofar second) rest)) (spelled o sofar second)
       (go second rest (fits_joined depth o sofar second e v u) (omega (arith, ap (λ q. length q.words) q, length-append front rest.words))))

@@ -233,16 +233,19 @@ module _ (special : SpecialName → ℕ) (g : Grammar) (no_advice : HasAdviceFor
       let s = front_append (spell_callee c) part front i in
       let mid : Within = before s.1 rest in
       let h = callee-full inner c s.0 mid s.3 (opens sg.Dot (separated (spell_each special xs)) s.1 rest s.4) (opens sg.Arrow (separated (spell_each special xs)) s.1 rest s.4) in
-      let r = called-full special g depth inner F (node_at h.0) h.1 xs s.1 rest v s.4 in
-      (e.call (e.calls (node_at h.0) h.1 (listed_exprs r.0)),
-      ap (λ q. e.call (e.calls no_node q (blank_exprs (listed_exprs r.0)))) h.2 ∙ ap (λ q. e.call (e.calls no_node (blank_callee c) q)) r.1,
-      ap (λ q. unary inner (before q rest)) s.2 ∙ ap (unary inner) (before-append s.0 s.1 rest) ∙ h.3 ∙ r.2)
+      let r = called-full special g depth inner F (node_at h.0) h.1 xs s.1 rest v s.4 in (
+        e.call (e.calls (node_at h.0) h.1 (listed_exprs r.0)),
+        ap (λ q. e.call (e.calls no_node q (blank_exprs (listed_exprs r.0)))) h.2 ∙ ap (λ q. e.call (e.calls no_node (blank_callee c) q)) r.1,
+        ap (λ q. unary inner (before q rest)) s.2 ∙ ap (unary inner) (before-append s.0 s.1 rest) ∙ h.3 ∙ r.2,
+      )
 
   new-full : (n : Node) (class : Placed NameId) (front : Tokens) (rest : Within) → words_of front ≡ spell_expr special (e.new n class) → Ends 0 rest.words → Is (e.new n class) front rest
   new-full n class front rest i ends =
-      let h = front_two (w.keyword k.New) (w.name class.item.0) front i in
-      (e.new (node_at h.0) (read_name h.1 class), refl,
-      ap (λ q. unary inner (before q rest)) h.2 ∙ unary-new inner h.0 h.1 class rest ∙ created-alone inner h.0 (read_name h.1 class) rest ends.closed)
+      let h = front_two (w.keyword k.New) (w.name class.item.0) front i in (
+        e.new (node_at h.0) (read_name h.1 class),
+        refl,
+        ap (λ q. unary inner (before q rest)) h.2 ∙ unary-new inner h.0 h.1 class rest ∙ created-alone inner h.0 (read_name h.1 class) rest ends.closed,
+      )
 
   new_with-full : (n : Node) (class : Placed NameId) (xs : ExprTrees) (front : Tokens) (rest : Within) → Opens depth (λ below. FitsAll g below xs) → words_of front ≡ spell_expr special (e.new_with n class xs)
       → Is (e.new_with n class xs) front rest
@@ -251,26 +254,31 @@ module _ (special : SpecialName → ℕ) (g : Grammar) (no_advice : HasAdviceFor
       let s = front_append (w.keyword k.New ∷ spell_name class) part front i in
       let h = front_two (w.keyword k.New) (w.name class.item.0) s.0 s.3 in
       let mid : Within = before s.1 rest in
-      let r = arguments-full special g depth inner F xs s.1 rest v s.4 in
-      (e.new_with (node_at h.0) (read_name h.1 class) (listed_exprs r.0),
-      ap (e.new_with no_node (blank_placed class)) r.1,
-      ap (λ q. unary inner (before q rest)) s.2 ∙ ap (unary inner) (before-append s.0 s.1 rest) ∙ ap (λ q. unary inner (before q mid)) h.2 ∙ unary-new inner h.0 h.1 class mid
-          ∙ created_with-arguments inner h.0 (read_name h.1 class) mid rest r.0 (opens sg.OpenParen (separated (spell_each special xs)) s.1 rest s.4) r.2)
+      let r = arguments-full special g depth inner F xs s.1 rest v s.4 in (
+        e.new_with (node_at h.0) (read_name h.1 class) (listed_exprs r.0),
+        ap (e.new_with no_node (blank_placed class)) r.1,
+        ap (λ q. unary inner (before q rest)) s.2 ∙ ap (unary inner) (before-append s.0 s.1 rest) ∙ ap (λ q. unary inner (before q mid)) h.2 ∙ unary-new inner h.0 h.1 class mid
+            ∙ created_with-arguments inner h.0 (read_name h.1 class) mid rest r.0 (opens sg.OpenParen (separated (spell_each special xs)) s.1 rest s.4) r.2,
+      )
 
   paren-full : (n : Node) (t : ExprTree) (front : Tokens) (rest : Within) → Opens depth (λ below. FitsExpr g below expr_level t) → words_of front ≡ spell_expr special (e.paren n t) → Is (e.paren n t) front rest
   paren-full n t front rest v i =
       let h = front_cons (w.sign sg.OpenParen) (spell_expr special t ++ w.sign sg.CloseParen ∷ []) front i in
-      let r = enclosed-full special g depth inner F t front rest v i in
-      (e.paren (node_at h.0) r.0, ap (e.paren no_node) r.1,
-      ap (λ q. unary inner (before q rest)) h.2 ∙ unary-paren inner h.0 h.1 rest ∙ ap (λ q. grouped inner h.0 (before q rest)) (sym h.2) ∙ grouped-by inner h.0 (before front rest) rest r.0 r.2)
+      let r = enclosed-full special g depth inner F t front rest v i in (
+        e.paren (node_at h.0) r.0,
+        ap (e.paren no_node) r.1,
+        ap (λ q. unary inner (before q rest)) h.2 ∙ unary-paren inner h.0 h.1 rest ∙ ap (λ q. grouped inner h.0 (before q rest)) (sym h.2) ∙ grouped-by inner h.0 (before front rest) rest r.0 r.2,
+      )
 
   cast-full : (n : Node) (type_name : TypeName) (t : ExprTree) (front : Tokens) (rest : Within) → IsNumberType type_name → Opens depth (λ below. FitsExpr g below expr_level t) → words_of front ≡ spell_expr special (e.cast n type_name t)
       → Is (e.cast n type_name t) front rest
   cast-full n type_name t front rest num v i =
       let h = front_cons (w.keyword (cast_word inner type_name)) (in_parentheses (spell_expr special t)) front (i ∙ ap (λ q. q ++ in_parentheses (spell_expr special t)) (cast_spelled special type_name num)) in
-      let r = enclosed-full special g depth inner F t h.1 rest v h.3 in
-      (e.cast (node_at h.0) type_name r.0, ap (e.cast no_node type_name) r.1,
-      ap (λ q. unary inner (before q rest)) h.2 ∙ unary-cast inner type_name num h.0 h.1 rest ∙ converted-by inner h.0 type_name (before h.1 rest) rest r.0 r.2)
+      let r = enclosed-full special g depth inner F t h.1 rest v h.3 in (
+        e.cast (node_at h.0) type_name r.0,
+        ap (e.cast no_node type_name) r.1,
+        ap (λ q. unary inner (before q rest)) h.2 ∙ unary-cast inner type_name num h.0 h.1 rest ∙ converted-by inner h.0 type_name (before h.1 rest) rest r.0 r.2,
+      )
 
   operated-by : (o : Placed UnOp) (s rest : Within) (t : ExprTree) → unary inner s ≡ done t rest → operated o (unary inner s) ≡ done (e.unary (node_at o.at) o.item t) rest
   operated-by o s rest t h = rw h refl
@@ -290,9 +298,11 @@ module _ (special : SpecialName → ℕ) (g : Grammar) (no_advice : HasAdviceFor
   unary-full (e.unary n o t) front rest v i ends =
       let h = front_cons (w.sign (unary_sign o)) (spell_expr special t) front i in
       let r = unary-full t h.1 rest v h.3 ends in
-      let placed : Placed UnOp = record { at = h.0; item = o } in
-      (e.unary (node_at h.0) o r.0, ap (e.unary no_node o) r.1,
-      ap (λ q. unary inner (before q rest)) h.2 ∙ unary-again inner placed (before h.1 rest) ∙ operated-by placed (before h.1 rest) rest r.0 r.2)
+      let placed : Placed UnOp = record { at = h.0; item = o } in (
+        e.unary (node_at h.0) o r.0,
+        ap (e.unary no_node o) r.1,
+        ap (λ q. unary inner (before q rest)) h.2 ∙ unary-again inner placed (before h.1 rest) ∙ operated-by placed (before h.1 rest) rest r.0 r.2,
+      )
   unary-full (e.binary n o a b) front rest v i ends = absurd (omega (arith, v.0, level-positive o.item))
   unary-full (e.paren n t) front rest v i ends = paren-full n t front rest v i
   unary-full (e.cast n type_name t) front rest v i ends = cast-full n type_name t front rest v.0 v.1 i
@@ -398,10 +408,13 @@ module _ (special : SpecialName → ℕ) (g : Grammar) (depth : ℕ) (inner : Op
       let x = go s.0 (before (binary_token placed ∷ []) mid) s.3 (Ends-operator l placed mid.words h) in
       let y = F b c.1 rest v c.3 ends in
       let turn = chain-turn (λ s. level inner l s) (suc l) x.2 x.0 (before (binary_token placed ∷ []) mid) placed tt y.0 mid rest x.3 (sym (operator-again (suc l) placed mid.words h)) (taken placed mid) y.2 (omega (arith, length-append c.1 rest.words)) in
-      let whole : before front rest ≡ before s.0 (before (binary_token placed ∷ []) mid) = ap (λ q. before q rest) (s.2 ∙ ap (λ q. s.0 ++ q) c.2) ∙ before-append s.0 (binary_token placed ∷ c.1) rest in
-      (joined placed x.0 y.0,
-      ap (λ q. e.binary no_node (blank_placed o) q (blank_expr y.0)) x.1 ∙ ap (e.binary no_node (blank_placed o) (blank_expr a)) y.1,
-      turn.0, turn.1, ap (level inner (suc l)) whole ∙ x.4 ∙ turn.2)
+      let whole : before front rest ≡ before s.0 (before (binary_token placed ∷ []) mid) = ap (λ q. before q rest) (s.2 ∙ ap (λ q. s.0 ++ q) c.2) ∙ before-append s.0 (binary_token placed ∷ c.1) rest in (
+        joined placed x.0 y.0,
+        ap (λ q. e.binary no_node (blank_placed o) q (blank_expr y.0)) x.1 ∙ ap (e.binary no_node (blank_placed o) (blank_expr a)) y.1,
+        turn.0,
+        turn.1,
+        ap (level inner (suc l)) whole ∙ x.4 ∙ turn.2,
+      )
 
   goes_on : (t : ExprTree) (front : Tokens) (rest : Within) → FitsExpr g depth (suc l) t → words_of front ≡ spell_expr special t → Ends l rest.words → GoesOn t front rest
   goes_on (e.lit n value) front rest v i ends = goes_on-low (e.lit n value) front rest v i ends

@@ -76,10 +76,11 @@ target-member r x base word front e same go at ts =
     let s = front_append (spell_ref r) (word ∷ spell_name x) front (e ∙ append_assoc (spell_ref r) (word ∷ []) (spell_name x)) in
     let t = front_two word (w.name x.item.0) s.1 s.4 in
     let whole : front ++ ts ≡ s.0 ++ (token t.0 word ∷ token t.1 (w.name x.item.0) ∷ ts) = ap (λ q. q ++ ts) (s.2 ∙ ap (λ q. s.0 ++ q) t.2) ∙ append_assoc s.0 (token t.0 word ∷ token t.1 (w.name x.item.0) ∷ []) ts in
-    let h = ref-full r s.0 s.3 at (token t.0 word ∷ token t.1 (w.name x.item.0) ∷ ts) in
-    (member_of (base h.0) (read_name t.1 x),
-    ap (λ b. callee_of.Member (record { base = b; name = blank_placed x })) (same h.0 r h.1),
-    ap (target at) whole ∙ target-by at s.0 (token t.0 word ∷ token t.1 (w.name x.item.0) ∷ ts) h.0 (member_of (base h.0) (read_name t.1 x)) ts h.2 (go h.0 t.0 t.1 ts))
+    let h = ref-full r s.0 s.3 at (token t.0 word ∷ token t.1 (w.name x.item.0) ∷ ts) in (
+      member_of (base h.0) (read_name t.1 x),
+      ap (λ b. callee_of.Member (record { base = b; name = blank_placed x })) (same h.0 r h.1),
+      ap (target at) whole ∙ target-by at s.0 (token t.0 word ∷ token t.1 (w.name x.item.0) ∷ ts) h.0 (member_of (base h.0) (read_name t.1 x)) ts h.2 (go h.0 t.0 t.1 ts),
+    )
 
 after-dot : (x : Placed NameId) (q : Ref) (p p' : Place) (ts : Tokens) → selected_of q (token p (w.sign sg.Dot) ∷ token p' (w.name x.item.0) ∷ ts) ≡ done (member_of (base_of.Dot q) (read_name p' x)) ts
 unfolding selected_of

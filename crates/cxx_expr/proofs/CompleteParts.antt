@@ -116,9 +116,11 @@ module _ (special : SpecialName → ℕ) (g : Grammar) where
         let whole : before front rest ≡ before s.0 (before tail rest) = ap (λ q. before q rest) cut ∙ before-append s.0 tail rest in
         let r = F x s.0 (before tail rest) u s.3 (Ends-comma expr_level c.0 (c.1 ++ rest.words)) in
         let k = items_from-full ys y c.1 rest n v.0 v.1 (c.3 ∙ append_assoc (spell_expr special y) (others ys) close)
-        (omega (arith, h, ap length cut, length-append s.0 tail, length-append front rest.words, length-append c.1 rest.words)) in
-        (r.0 ∷ k.0, ap (λ q. e.more_exprs q (blank_exprs (listed_exprs k.0))) r.1 ∙ ap (e.more_exprs (blank_expr x)) k.1,
-        ap (items_from p (suc n)) whole ∙ items_turn n r.0 (before s.0 (before tail rest)) c.0 (before c.1 rest) r.2 ∙ ap (front_of (r.0 ∷ [])) k.2)
+        (omega (arith, h, ap length cut, length-append s.0 tail, length-append front rest.words, length-append c.1 rest.words)) in (
+          r.0 ∷ k.0,
+          ap (λ q. e.more_exprs q (blank_exprs (listed_exprs k.0))) r.1 ∙ ap (e.more_exprs (blank_expr x)) k.1,
+          ap (items_from p (suc n)) whole ∙ items_turn n r.0 (before s.0 (before tail rest)) c.0 (before c.1 rest) r.2 ∙ ap (front_of (r.0 ∷ [])) k.2,
+        )
 
     items_none : (at : Place) (rest : Within) → items p (before (token at (w.sign sg.CloseParen) ∷ []) rest) ≡ done [] rest
     unfolding items
@@ -135,7 +137,7 @@ module _ (special : SpecialName → ℕ) (g : Grammar) where
     items-full (e.more_exprs x xs) front rest v i =
         let j : words_of front ≡ spell_expr special x ++ (others xs ++ close) = i ∙ append_assoc (spell_expr special x) (others xs) close in
         let spelled : words_of (front ++ rest.words) ≡ spell_expr special x ++ ((others xs ++ close) ++ words_of rest.words) =
-            words-append front rest.words ∙ ap (λ q. q ++ words_of rest.words) j ∙ append_assoc (spell_expr special x) (others xs ++ close) (words_of rest.words) in
+        words-append front rest.words ∙ ap (λ q. q ++ words_of rest.words) j ∙ append_assoc (spell_expr special x) (others xs ++ close) (words_of rest.words) in
         let ended : sees sg.CloseParen (front ++ rest.words) ≡ false = sees-words sg.CloseParen (front ++ rest.words) ∙ ap (sees_in sg.CloseParen) spelled ∙ not_close special x ((others xs ++ close) ++ words_of rest.words) in
         let k = items_from-full xs x front rest (suc (length (front ++ rest.words))) v.0 v.1 j (omega arith) in
         (k.0, k.1, items_some (before front rest) ended ∙ k.2)

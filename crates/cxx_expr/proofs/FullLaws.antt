@@ -66,7 +66,7 @@ module _ (special : SpecialName → ℕ) (g : Grammar) (no_advice : HasAdviceFor
       → Good tokens [] (fulls most depth l) (λ q r. full_level more deeper l q ≡ r) ts (words_left o)
   by_outcome most more depth deeper l ts (done t rest) le h =
       let few : most ≡ operators_in t + rest.operators =
-          ap (λ q. q.operators) h.whole ∙ ap (λ q. charged q rest.operators) (sym h.text) ∙ charged-expr special g no_advice t depth l h.valid rest.operators in
+      ap (λ q. q.operators) h.whole ∙ ap (λ q. charged q rest.operators) (sym h.text) ∙ charged-expr special g no_advice t depth l h.valid rest.operators in
       record {
         front = h.front;
         whole = ap (λ q. q.words) h.whole;

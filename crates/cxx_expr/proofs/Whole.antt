@@ -161,10 +161,10 @@ module _ (special : SpecialName → ℕ) where
       let others : Tokens = map blank_token v.2 in
       let tail : Tokens = next_token ∷ others in
       let spelled : words_of (front ++ tail) ≡ spell_expr special v.0 =
-          words-append front tail ∙ ap (λ q. words_of front ++ next_token.item ∷ q) (words-map v.2) ∙ sym (append_assoc (words_of front) (next_token.item ∷ []) v.2) ∙ sym v.4 in
+      words-append front tail ∙ ap (λ q. words_of front ++ next_token.item ∷ q) (words-map v.2) ∙ sym (append_assoc (words_of front) (next_token.item ∷ []) v.2) ∙ sym v.4 in
       let r = expr-full special written no_forms deeper v.0 (front ++ tail) (joins [] 0) (expr-larger written v.1 deeper (omega arith) expr_level v.0 v.3) spelled (Ends-nil expr_level) in
       let cut : before front (joins tail (charged (words_of tail) 0)) ≡ before (front ++ tail) (joins [] 0) =
-          ap (λ q. before front (joins q (charged (words_of tail) 0))) (sym (append-nil tail)) ∙ sym (before-append front tail (joins [] 0)) in
+      ap (λ q. before front (joins q (charged (words_of tail) 0))) (sym (append-nil tail)) ∙ sym (before-append front tail (joins [] 0)) in
       never deeper (omega arith) others r.0 (ap (expr deeper) cut ∙ r.2)
 
   pub record Stops (ts rest : Tokens) : Type 0 where
@@ -269,7 +269,7 @@ done_by : (depth : ℕ) (ts : Tokens) (t : ExprTree) (r : Within) → r.words �
 done_by depth ts t r i G =
     let g = G any_names in
     let few : most_operators ≡ operators_in t + r.operators =
-        ap (λ q. q.operators) g.whole ∙ ap (λ q. charged q r.operators) (sym g.text) ∙ charged-expr any_names written no_forms t depth expr_level g.valid r.operators in
+    ap (λ q. q.operators) g.whole ∙ ap (λ q. charged q r.operators) (sym g.text) ∙ charged-expr any_names written no_forms t depth expr_level g.valid r.operators in
     ((g.valid, omega (arith, few)), λ special. let s = G special in s.text ∙ ap words_of (sym (ap (λ q. q.words) s.whole ∙ ap (λ q. s.front ++ q) i ∙ append-nil s.front)))
 
 pub whole-done : (depth : ℕ) (ts : Tokens) (t : ExprTree) (rest : Tokens) → whole depth ts ≡ done t rest → IsExpr depth t (words_of ts)
@@ -280,6 +280,7 @@ whole-done depth ts t rest h =
     by_words : (u : ExprTree) (r : Within) (ws : Tokens) → r.words ≡ ws → ended u ws ≡ done t rest → ((special : SpecialName → ℕ) → Good within [] (exprs special written depth expr_level) (λ q o. expr depth q ≡ o) (joins ts most_operators) (done u r)) → IsExpr depth t (words_of ts)
     by_words u r [] i j G = let s : u ≡ t = cc in subst (λ q. IsExpr depth q (words_of ts)) s (done_by depth ts u r i G)
     by_words u r (x ∷ xs) i j G = cc
+
     by_outcome : (o : Outcome Within ExprTree) → and_then (words_left o) ended ≡ done t rest → ((special : SpecialName → ℕ) → Good within [] (exprs special written depth expr_level) (λ q o. expr depth q ≡ o) (joins ts most_operators) o) → IsExpr depth t (words_of ts)
     by_outcome (done u r) j G = by_words u r r.words refl j G
     by_outcome (failed why r) j G = cc

@@ -145,7 +145,12 @@ impl<'w> Within<'w> {
     /// A number type, which comes next, and an operand in parentheses.
     #[cycle(expr)]
     #[tactic(auto, unfolding(crate::specs::Descent::converted))]
-    fn converted(&mut self, depth: usize, at: Place, type_name: Option<TypeName>) -> Result<Expr, Stop>
+    fn converted(
+        &mut self,
+        depth: usize,
+        at: Place,
+        type_name: Option<TypeName>,
+    ) -> Result<Expr, Stop>
         ensures reads { Reads expr_tree (grammar.converted_by (inner_at depth) at type_name self.old) result self.new }
         ensures left { length self.new.words ≤ length self.old.words }
     {
@@ -237,10 +242,7 @@ impl<'w> Within<'w> {
         ensures left { length self.new.words ≤ length self.old.words }
     {
         let inside = self.enclosed(depth)?;
-        Ok(Expr::Paren(
-            unnumbered(at),
-            Boxed::new(self.words.alloc, inside)?,
-        ))
+        Ok(Expr::Paren(unnumbered(at), Boxed::new(self.words.alloc, inside)?))
     }
 
     /// An expression in parentheses.

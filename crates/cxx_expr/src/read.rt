@@ -57,5 +57,4 @@ pub fn read_expr<'w>(alloc: Global, words: &'w [WordAt<'w>], depth: usize) -> Re
 /// Says that expressions of one spelling are the same but for places and numbers of nodes.
 pub fn spelling_is_unique()
     ensures { SpellingIsUnique }
-{
-}
+{}

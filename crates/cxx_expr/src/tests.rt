@@ -107,7 +107,12 @@ fn counts_operators(rt: HostRuntime) -> Result<(), Fail> {
 /// A sum ends before `<<`, and arguments are `(a, ::a.a(), new a)`.
 #[test]
 fn reads_parts_of_statements(rt: HostRuntime) -> Result<(), Fail> {
-    let printed = [number(1), sign(2, Sign::Plus), number(3), sign(4, Sign::ShiftLeft)];
+    let printed = [
+        number(1),
+        sign(2, Sign::Plus),
+        number(3),
+        sign(4, Sign::ShiftLeft),
+    ];
     let mut parser = Parser::new(rt.alloc(), printed.as_slice());
     assert!(rt; parser.sum(0).is_ok());
     assert!(rt; parser.sees(Sign::ShiftLeft));
