@@ -4,7 +4,7 @@ use Rattle.cxx_tree.specs.ExprTree.{ExprTree}
 use Rattle.cxx_tree.specs.Fits.{expr_level, sum_level}
 use Rattle.cxx_expr.specs.declared.stop.Stop.TheVariants.{Deep}
 use Rattle.cxx_expr.specs.Tokens.{Tokens, after}
-use Rattle.cxx_expr.specs.Outcome.{Outcome, failed, Parse}
+use Rattle.cxx_expr.specs.Outcome.{failed, Parse}
 use Rattle.cxx_expr.specs.Within.{full, on_words, words_left}
 use Rattle.cxx_expr.specs.Descent.{level, inner_at, items}
 

@@ -1,4 +1,4 @@
-use Rattle.std.proofs.Common.{◌≡◌, ◌≤◌, length, map, ℕ, suc, ◌+◌, ◌-◌, ◌∙◌, sym, ap, rules, arith, Bool, true, false, List, [], ◌∷◌}
+use Rattle.std.proofs.Common.{◌≡◌, map, ◌∙◌, ap, arith, true, false, [], ◌∷◌}
 use Rattle.std.proofs.lemmas.Result.{err_from_is_err_and}
 use Rattle.agxx_base.specs.declared.vocabulary.Sign.TheVariants as sg
 use Rattle.cxx_tree.specs.ExprTree.{expr_tree}
@@ -6,9 +6,9 @@ use Rattle.cxx_tree.specs.Fits.{expr_level}
 use Rattle.cxx_expr.specs.Tokens.{sees}
 use Rattle.cxx_expr.specs.Outcome.{done, and_then}
 use Rattle.cxx_expr.specs.Within.{with_operators, on_words, words_left}
-use Rattle.cxx_expr.specs.Descent.{items, items_from, front_of}
+use Rattle.cxx_expr.specs.Descent.{items_from, front_of}
 use Rattle.cxx_expr.specs.Full.{most_operators, full_level}
-use Rattle.cxx_expr.proofs.Turns.{length-after, true-sees, items-fail, items-more, items-last, front_of-front_of, map-push}
+use Rattle.cxx_expr.proofs.Turns.{true-sees, items-fail, items-more, items-last, front_of-front_of, map-push}
 use Rattle.cxx_expr.proofs.States.{joins}
 use Rattle.cxx_expr.proofs.parser.Parser.full_items.Goals as goal
 
