@@ -64,11 +64,6 @@ impl<'w> Parser<'w> {
         self.left.len()
     }
 
-    /// Where the trees that are read lie.
-    pub fn alloc(&self) -> Global {
-        self.alloc
-    }
-
     /// The word that comes next.
     pub fn peek(&self) -> Option<WordAt<'w>>
         ensures { option_map tokens.token_of result ≡ tokens.next self.now }
