@@ -61,7 +61,7 @@ module _ (special : SpecialName → ℕ) where
     spell_expr-same (e.unary n o operand) = cc (spell_expr-same operand)
     spell_expr-same (e.binary n o a b) = cc (spell_expr-same a, spell_expr-same b)
     spell_expr-same (e.paren n inner) = cc (spell_expr-same inner)
-    spell_expr-same (e.cast n num operand) = cc (spell_expr-same operand)
+    spell_expr-same (e.cast n type_name operand) = cc (spell_expr-same operand)
     spell_expr-same (e.call c) = spell_call-same c
     spell_expr-same (e.new n class) = refl
     spell_expr-same (e.new_with n class arguments) = cc (spell_each-same arguments)

@@ -1,1 +1,2 @@
 pub mod Blanked
+pub mod Larger

@@ -1,11 +1,11 @@
 -- Which trees of aspect files are trees of their grammar, within limits.
-use Rattle.std.specs.Prelude.{ℕ, ◌≤◌, ◌≢◌, ◌-◌, Bool, length, Option, Some, None, All, IsTrue}
+use Rattle.std.specs.Prelude.{ℕ, ◌≤◌, ◌≢◌, ◌-◌, Bool, length, Option, Some, None, IsTrue}
 use Rattle.agxx_base.specs.declared.vocabulary.SpecialName.{SpecialName}
 use Rattle.agxx_base.specs.declared.vocabulary.SpecialName.TheVariants as sn
 use Rattle.cxx_tree.specs.declared.aspect.PointcutOp.{PointcutOp}
 use Rattle.cxx_tree.specs.declared.aspect.PointcutOp.TheVariants as op
 use Rattle.cxx_tree.specs.Limits as l
-use Rattle.cxx_tree.specs.Limits.{Limits, Opens}
+use Rattle.cxx_tree.specs.Limits.{Limits, Opens, Every}
 use Rattle.cxx_tree.specs.Fits.{IsMemberType, FitsFunction, FitsParams, FitsBlock}
 use Rattle.cxx_tree.specs.AspectTree as a
 
@@ -51,7 +51,7 @@ module _ (special : SpecialName → ℕ) where
     FitsSliceItem depth (a.slice_function f) = FitsFunction l.aspects most depth f
 
     abbrev pub FitsSlice : ℕ → a.SliceTree → Type 0
-    FitsSlice depth s = FitsPointcut depth pointcut_level s.pointcut × Opens depth (λ below. All (FitsSliceItem below) s.items)
+    FitsSlice depth s = FitsPointcut depth pointcut_level s.pointcut × Opens depth (λ below. Every (FitsSliceItem below) s.items)
 
     abbrev pub FitsAspectItem : ℕ → a.AspectItemTree → Type 0
     FitsAspectItem depth (a.label at access) = Unit {0}
@@ -63,10 +63,10 @@ module _ (special : SpecialName → ℕ) where
     FitsAspectItem depth (a.slice s) = FitsSlice depth s
 
     abbrev pub FitsAspect : ℕ → a.AspectTree → Type 0
-    FitsAspect depth t = Opens depth (λ below. All (FitsAspectItem below) t.items)
+    FitsAspect depth t = Opens depth (λ below. Every (FitsAspectItem below) t.items)
 
 abbrev pub FitsAspects : (SpecialName → ℕ) → Limits → a.AspectsTree → Type 0
-FitsAspects special limits t = All (FitsAspect special limits.operators limits.nesting) t.aspects
+FitsAspects special limits t = Every (FitsAspect special limits.operators limits.nesting) t.aspects
 
 -- aspects of any size
 abbrev pub AreAspects : (SpecialName → ℕ) → a.AspectsTree → Type 0

@@ -61,7 +61,7 @@ abbrev mutual
   blank_expr (e.unary n o operand) = e.unary no_node o (blank_expr operand)
   blank_expr (e.binary n o a b) = e.binary no_node (blank_placed o) (blank_expr a) (blank_expr b)
   blank_expr (e.paren n inner) = e.paren no_node (blank_expr inner)
-  blank_expr (e.cast n num operand) = e.cast no_node num (blank_expr operand)
+  blank_expr (e.cast n type_name operand) = e.cast no_node type_name (blank_expr operand)
   blank_expr (e.call c) = e.call (blank_call c)
   blank_expr (e.new n class) = e.new no_node (blank_placed class)
   blank_expr (e.new_with n class arguments) = e.new_with no_node (blank_placed class) (blank_exprs arguments)

@@ -1,12 +1,12 @@
 -- Expressions as plain data, on which definitions recurse: an expression without where its parts lie in memory.
 use Rattle.std.specs.Prelude.{Bool, List, [], ◌∷◌, map, Some, None}
 use Rattle.agxx_base.specs.declared.ids.NameId.{NameId}
-use Rattle.agxx_base.specs.declared.kind.NumKind.{NumKind}
 use Rattle.cxx_tree.specs.declared.node.Node.{Node}
 use Rattle.cxx_tree.specs.declared.node.Placed.{Placed}
 use Rattle.cxx_tree.specs.declared.node.Number.{Number}
 use Rattle.cxx_tree.specs.declared.operator.BinOp.{BinOp}
 use Rattle.cxx_tree.specs.declared.operator.UnOp.{UnOp}
+use Rattle.cxx_tree.specs.declared.program.TypeName.{TypeName}
 use Rattle.cxx_tree.specs.declared.expr.Left.{Left}
 use Rattle.cxx_tree.specs.declared.expr.Callee.{Callee}
 use Rattle.cxx_tree.specs.declared.expr.Call.{Call}
@@ -24,7 +24,7 @@ mutual
     unary : Node → UnOp → ExprTree → ExprTree
     binary : Node → Placed BinOp → ExprTree → ExprTree → ExprTree
     paren : Node → ExprTree → ExprTree
-    cast : Node → NumKind → ExprTree → ExprTree
+    cast : Node → TypeName → ExprTree → ExprTree
     call : CallTree → ExprTree
     new : Node → Placed NameId → ExprTree
     new_with : Node → Placed NameId → ExprTrees → ExprTree
@@ -49,7 +49,7 @@ expr_step (Expr-F.Left l) = left l
 expr_step (Expr-F.Unary n op operand) = unary n op operand
 expr_step (Expr-F.Binary n op a b) = binary n op a b
 expr_step (Expr-F.Paren n inner) = paren n inner
-expr_step (Expr-F.Cast n kind operand) = cast n kind operand
+expr_step (Expr-F.Cast n type_name operand) = cast n type_name operand
 expr_step (Expr-F.Call c) = call c
 expr_step (Expr-F.New n class None) = new n class
 expr_step (Expr-F.New n class (Some arguments)) = new_with n class (listed_exprs arguments)

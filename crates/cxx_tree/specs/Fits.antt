@@ -1,7 +1,7 @@
 -- Which trees are trees of the grammar, within limits: the operands of an operator keep its level, a repeated part
 -- that can't be empty isn't, a form stands only where the grammar has it, and nesting and operators keep the limits.
 -- A tree of any size is one that fits some limits.
-use Rattle.std.specs.Prelude.{ℕ, ◌≤◌, ◌≢◌, suc, ◌-◌, ◌+◌, List, [], Option, Some, None, All}
+use Rattle.std.specs.Prelude.{ℕ, ◌≤◌, ◌≢◌, suc, ◌-◌, ◌+◌, List, [], Option, Some, None}
 use Rattle.cxx_tree.specs.declared.operator.BinOp.{BinOp}
 use Rattle.cxx_tree.specs.declared.operator.BinOp.TheVariants as op
 use Rattle.cxx_tree.specs.declared.expr.Left.{Left}
@@ -9,7 +9,7 @@ use Rattle.cxx_tree.specs.declared.expr.Left.TheVariants as left_of
 use Rattle.cxx_tree.specs.declared.program.TypeName.{TypeName}
 use Rattle.cxx_tree.specs.declared.program.TypeName.TheVariants as type_of
 use Rattle.cxx_tree.specs.declared.program.Param.{Param}
-use Rattle.cxx_tree.specs.Limits.{Grammar, HasWovenForms, HasAdviceForms, Limits, Opens}
+use Rattle.cxx_tree.specs.Limits.{Grammar, HasWovenForms, HasAdviceForms, Limits, Opens, Every}
 use Rattle.cxx_tree.specs.ExprTree as e
 use Rattle.cxx_tree.specs.StmtTree as s
 use Rattle.cxx_tree.specs.ProgramTree as p
@@ -53,7 +53,7 @@ abbrev mutual
   operators_in (e.unary n o operand) = suc (operators_in operand)
   operators_in (e.binary n o a b) = suc (operators_in a + operators_in b)
   operators_in (e.paren n inner) = operators_in inner
-  operators_in (e.cast n num operand) = operators_in operand
+  operators_in (e.cast n type_name operand) = operators_in operand
   operators_in (e.call c) = operators_in_call c
   operators_in (e.new n class) = 0
   operators_in (e.new_with n class arguments) = operators_in_all arguments
@@ -84,13 +84,22 @@ IsPlainType type_of.Void = Unit {0}
 IsPlainType (type_of.Pointer class) = Unit {0}
 IsPlainType type_of.Mutex = ⊥
 
+-- the types that a cast is written with
+abbrev pub IsNumberType : TypeName → Type 0
+IsNumberType (type_of.Num num) = Unit {0}
+IsNumberType type_of.Int = Unit {0}
+IsNumberType type_of.Unsigned = Unit {0}
+IsNumberType type_of.Void = ⊥
+IsNumberType (type_of.Pointer class) = ⊥
+IsNumberType type_of.Mutex = ⊥
+
 -- what holds of an optional part, if it is there
 abbrev pub Optionally : {A : Type 0} → (A → Type 0) → Option A → Type 0
 Optionally Holds None = Unit {0}
 Optionally Holds (Some part) = Holds part
 
 abbrev pub FitsParams : ℕ → List Param → Type 0
-FitsParams depth params = Opens depth (λ below. All (λ (q : Param). IsPlainType q.type_name.item) params)
+FitsParams depth params = Opens depth (λ below. Every (λ (q : Param). IsPlainType q.type_name.item) params)
 
 module _ (grammar : Grammar) where
   abbrev pub IsMemberType : TypeName → Type 0
@@ -118,7 +127,7 @@ module _ (grammar : Grammar) where
     FitsExpr depth level (e.binary n o a b) =
         (level_of o.item ≤ level) × FitsExpr depth (level_of o.item) a × FitsExpr depth (level_of o.item - 1) b
     FitsExpr depth level (e.paren n inner) = Opens depth (λ below. FitsExpr below expr_level inner)
-    FitsExpr depth level (e.cast n num operand) = Opens depth (λ below. FitsExpr below expr_level operand)
+    FitsExpr depth level (e.cast n type_name operand) = IsNumberType type_name × Opens depth (λ below. FitsExpr below expr_level operand)
     FitsExpr depth level (e.call c) = FitsCall depth c
     FitsExpr depth level (e.new n class) = Unit {0}
     FitsExpr depth level (e.new_with n class arguments) = Opens depth (λ below. FitsAll below arguments)
@@ -172,7 +181,7 @@ module _ (grammar : Grammar) where
           Opens depth (λ below. Optionally (FitsStart below) start × Optionally (FitsFull below expr_level) condition × Optionally (FitsSimple below) step) × FitsBlock depth body
       FitsStmt depth (s.return at value) = Optionally (FitsFull depth expr_level) value
       FitsStmt depth (s.delete at pointer) = FitsFull depth expr_level pointer
-      FitsStmt depth (s.print q) = (q.operands ≢ []) × All (FitsPrinted depth) q.operands
+      FitsStmt depth (s.print q) = (q.operands ≢ []) × Every (FitsPrinted depth) q.operands
       FitsStmt depth (s.thread t) = FitsArguments depth t.arguments
       FitsStmt depth (s.abort at) = HasWovenForms grammar × Opens depth (λ below. Unit {0})
 
@@ -196,7 +205,7 @@ module _ (grammar : Grammar) where
     FitsFunction depth f = IsPlainType f.result.item × FitsParams depth f.params × FitsBlock depth f.body
 
     abbrev pub FitsCtor : ℕ → p.CtorTree → Type 0
-    FitsCtor depth c = FitsParams depth c.params × All (λ (i : p.InitTree). FitsArguments depth i.arguments) c.inits × FitsBlock depth c.body
+    FitsCtor depth c = FitsParams depth c.params × Every (λ (i : p.InitTree). FitsArguments depth i.arguments) c.inits × FitsBlock depth c.body
 
     abbrev pub FitsDtor : ℕ → p.DtorTree → Type 0
     FitsDtor depth d = Opens depth (λ below. Unit {0}) × FitsBlock depth d.body
@@ -218,15 +227,21 @@ module _ (grammar : Grammar) where
     FitsGlobal depth (p.mutex at n) = Unit {0}
 
     abbrev pub FitsDecl : ℕ → p.DeclTree → Type 0
-    FitsDecl depth (p.class c) = Opens depth (λ below. All (FitsItem below) c.items)
+    FitsDecl depth (p.class c) = Opens depth (λ below. Every (FitsItem below) c.items)
     FitsDecl depth (p.class_name c) = Unit {0}
     FitsDecl depth (p.free_function f) = FitsFunction depth f
     FitsDecl depth (p.proto f) = IsPlainType f.result.item × FitsParams depth f.params
     FitsDecl depth (p.global g) = FitsGlobal depth g
 
 abbrev pub FitsProgram : Grammar → Limits → p.ProgramTree → Type 0
-FitsProgram grammar limits q = All (FitsDecl grammar limits.operators limits.nesting) q.decls
+FitsProgram grammar limits q = Every (FitsDecl grammar limits.operators limits.nesting) q.decls
 
 -- a program of any size
 abbrev pub IsProgram : Grammar → p.ProgramTree → Type 0
 IsProgram grammar q = (limits : Limits) × FitsProgram grammar limits q
+
+-- a program that fits some limits fits larger ones
+abbrev pub LargerLimitsFit : Type 0
+LargerLimitsFit =
+    (grammar : Grammar) (small large : Limits) →
+    small.nesting ≤ large.nesting → small.operators ≤ large.operators → (q : p.ProgramTree) → FitsProgram grammar small q → FitsProgram grammar large q

@@ -1,5 +1,5 @@
 -- Which forms a text may have, and how large it may be.
-use Rattle.std.specs.Prelude.{ℕ, suc, ◌≡◌}
+use Rattle.std.specs.Prelude.{ℕ, suc, ◌≡◌, List, [], ◌∷◌}
 use Rattle.agxx_base.specs.declared.kind.Mode.{Mode}
 use Rattle.agxx_base.specs.declared.kind.Mode.TheVariants as mode
 
@@ -38,3 +38,8 @@ limits_of aspects = record { nesting = 99; operators = 400 }
 -- one more brace, parenthesis or `else if` may open at this depth, and what stands in it has the depth that is left
 abbrev pub Opens : ℕ → (ℕ → Type 0) → Type 0
 Opens depth Holds = (below : ℕ) × (depth ≡ suc below) × Holds below
+
+-- what holds of each part of a list
+abbrev pub Every : {A : Type 0} → (A → Type 0) → List A → Type 0
+Every Holds [] = Unit {0}
+Every Holds (first ∷ rest) = Holds first × Every Holds rest

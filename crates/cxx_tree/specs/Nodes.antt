@@ -34,7 +34,7 @@ abbrev mutual
   nodes_in_expr (e.unary n o operand) = suc (nodes_in_expr operand)
   nodes_in_expr (e.binary n o a b) = suc (nodes_in_expr a + nodes_in_expr b)
   nodes_in_expr (e.paren n inner) = suc (nodes_in_expr inner)
-  nodes_in_expr (e.cast n num operand) = suc (nodes_in_expr operand)
+  nodes_in_expr (e.cast n type_name operand) = suc (nodes_in_expr operand)
   nodes_in_expr (e.call c) = nodes_in_call c
   nodes_in_expr (e.new n class) = 1
   nodes_in_expr (e.new_with n class arguments) = suc (nodes_in_exprs arguments)

@@ -177,7 +177,7 @@ module _ (special : SpecialName → ℕ) where
     spell_expr (e.unary n o operand) = sign (unary_sign o) ∷ spell_expr operand
     spell_expr (e.binary n o a b) = spell_expr a ++ sign (binary_sign o.item) ∷ spell_expr b
     spell_expr (e.paren n inner) = in_parentheses (spell_expr inner)
-    spell_expr (e.cast n num operand) = keyword (k.Number num) ∷ in_parentheses (spell_expr operand)
+    spell_expr (e.cast n type_name operand) = spell_type type_name ++ in_parentheses (spell_expr operand)
     spell_expr (e.call c) = spell_call c
     spell_expr (e.new n class) = keyword k.New ∷ spell_name class
     spell_expr (e.new_with n class arguments) = keyword k.New ∷ (spell_name class ++ in_parentheses (separated (spell_each arguments)))

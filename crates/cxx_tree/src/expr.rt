@@ -6,7 +6,7 @@ ghost use Rattle.cxx_tree.specs.Places.{expr_node, left_node};
 
 use crate::node::{Name, Node, Number, Placed};
 use crate::operator::{BinOp, UnOp};
-use agxx_base::NumKind;
+use crate::program::TypeName;
 use sqlite_items::{Boxed, Items};
 
 /// A name as a value, as an object or as a function, with or without `::` before it.
@@ -76,8 +76,8 @@ pub enum Expr {
     Unary(Node, UnOp, Boxed<Expr>),
     Binary(Node, Placed<BinOp>, Boxed<Expr>, Boxed<Expr>),
     Paren(Node, Boxed<Expr>),
-    /// A number type and the operand in its parentheses.
-    Cast(Node, NumKind, Boxed<Expr>),
+    /// A number type, as it is written, and the operand in its parentheses.
+    Cast(Node, TypeName, Boxed<Expr>),
     Call(Call),
     /// `new`, the class's name, and the arguments if there are parentheses.
     New(Node, Name, Option<Items<Expr>>),

@@ -1,7 +1,6 @@
 //! Equality of statements but for places and numbers of nodes.
 
 ghost use Rattle.std.specs.Prelude.{◌≡◌, ◌↔◌, IsTrue, option_map, map};
-ghost use Rattle.std.specs.Option.{option_copied};
 ghost use Rattle.cxx_tree.specs.ExprTree.{expr_tree};
 ghost use Rattle.cxx_tree.specs.StmtTree.{local_tree, assign_tree, simple_tree, printed_tree, print_tree, thread_tree, start_tree, stmt_tree, stmts_tree, block_tree, if_tree, else_tree, while_tree, for_tree, initial_tree};
 ghost use Rattle.cxx_tree.specs.Blank.{blank_quoted, blank_local, blank_initial, blank_assign, blank_bump, blank_simple, blank_printed, blank_print, blank_thread, blank_start, blank_stmt, blank_stmts, blank_block, blank_if, blank_else, blank_expr};

@@ -1,0 +1,17 @@
+pub mod Signs
+pub mod Turns
+pub mod Views
+pub mod Good
+pub mod States
+pub mod Names
+pub mod Operators
+pub mod Sorts
+pub mod Arguments
+pub mod Chains
+pub mod Laws
+pub mod Fronts
+pub mod CompleteNames
+pub mod CompleteParts
+pub mod Complete
+pub mod Whole
+pub mod FullLaws
