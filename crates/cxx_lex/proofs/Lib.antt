@@ -13,3 +13,4 @@ pub mod Fronts
 pub mod Readings
 pub mod Stepping
 pub mod LargeNumbers
+pub mod Stays

@@ -12,6 +12,7 @@ is_space b = b == 32 || b == 9 || b == 12 || b == 13
 abbrev pub is_blank : ℕ → Bool
 is_blank b = is_space b || b == 10
 
+-- a letter or an underscore
 abbrev pub is_letter : ℕ → Bool
 is_letter b = is_within 97 122 b || is_within 65 90 b || b == 95
 

@@ -3,7 +3,11 @@ use Rattle.std.specs.Prelude.{◌≡◌, ◌↔◌, ◌≤◌, ◌^◌, ◌⊎�
 use Rattle.agxx_base.specs.declared.fault.Refusal.{Refusal}
 use Rattle.agxx_base.specs.declared.kind.Mode.{Mode}
 use Rattle.agxx_base.specs.declared.place.Place.{Place}
-use Rattle.cxx_lex.specs.Tokens.{Token, HasTokens, RefusedAt}
+use Rattle.cxx_lex.specs.declared.lexer.LexStep.{LexStep}
+use Rattle.cxx_lex.specs.declared.lexer.LexStep.TheVariants as step
+use Rattle.cxx_lex.specs.Left.{Left}
+use Rattle.cxx_lex.specs.Steps.{Steps}
+use Rattle.cxx_lex.specs.Tokens.{Token, token_of, HasTokens, RefusedAt}
 use Rattle.agxx_base.specs.declared.rule.Rule.TheVariants.{L3}
 use Rattle.cxx_lex.specs.declared.numbers.Base.{Base}
 use Rattle.cxx_lex.specs.declared.numbers.Base.TheVariants.{Decimal, Hexadecimal}
@@ -45,3 +49,15 @@ number_bound Hexadecimal ending = 2 ^ 64
 
 abbrev pub RefusesLargeNumbers : Type 0
 RefusesLargeNumbers = (base : Base) (value : ℕ) (ending : Suffix) → (number_verdict base value ending ≡ Err L3) ↔ (number_bound base ending ≤ value)
+
+-- two steps that tell the same, whatever memory their tokens' texts lie in
+abbrev pub IsSameStep : LexStep → LexStep → Type 0
+IsSameStep (step.Token t) (step.Token u) = token_of t ≡ token_of u
+IsSameStep (step.End p) (step.End q) = p ≡ q
+IsSameStep (step.Refused r) (step.Refused q) = r ≡ q
+IsSameStep _ _ = ⊥
+
+-- What is left decides what a lexer tells and what is left then. So one that ended or refused, which leaves it as it was,
+-- tells the same again.
+abbrev pub StepsInOneWay : Type 0
+StepsInOneWay = (old : Left) (first second : LexStep) (new after : Left) → Steps old first new → Steps old second after → IsSameStep first second × (new ≡ after)

@@ -1,7 +1,7 @@
 //! Texts with their tokens, worked out by hand from the rules of the language.
 
 use crate::{LexStep, Lexer, Tok, TokKind, lex_all, string_bytes};
-use agxx_base::{Keyword, Mode, Place, Refusal};
+use agxx_base::{Keyword, Mode, NumKind, Place, Refusal};
 use std::alloc::Global;
 use std::test::Fail;
 
@@ -61,6 +61,47 @@ const NAME_96: &[u8] =
 
 const NAME_97: &[u8] =
     b"a234567890123456789012345678901234567890123456789012345678901234567890123456789012345678901234567";
+
+const NAME_RESERVED_65: &[u8] =
+    b"a__45678901234567890123456789012345678901234567890123456789012345";
+
+/// The keywords that the language's grammar has.
+const KEYWORDS: &[(&[u8], Keyword)] = &[
+    (b"class", Keyword::Class),
+    (b"struct", Keyword::Struct),
+    (b"public", Keyword::Public),
+    (b"private", Keyword::Private),
+    (b"protected", Keyword::Protected),
+    (b"virtual", Keyword::Virtual),
+    (b"void", Keyword::Void),
+    (b"int", Keyword::Int),
+    (b"unsigned", Keyword::Unsigned),
+    (b"true", Keyword::True),
+    (b"false", Keyword::False),
+    (b"nullptr", Keyword::Nullptr),
+    (b"this", Keyword::This),
+    (b"new", Keyword::New),
+    (b"delete", Keyword::Delete),
+    (b"return", Keyword::Return),
+    (b"if", Keyword::If),
+    (b"else", Keyword::Else),
+    (b"while", Keyword::While),
+    (b"for", Keyword::For),
+    (b"aspect", Keyword::Aspect),
+    (b"advice", Keyword::Advice),
+    (b"pointcut", Keyword::Pointcut),
+    (b"slice", Keyword::Slice),
+    (b"tjp", Keyword::Tjp),
+    (b"bool", Keyword::Number(NumKind::Bool)),
+    (b"int8_t", Keyword::Number(NumKind::I8)),
+    (b"uint8_t", Keyword::Number(NumKind::U8)),
+    (b"int16_t", Keyword::Number(NumKind::I16)),
+    (b"uint16_t", Keyword::Number(NumKind::U16)),
+    (b"int32_t", Keyword::Number(NumKind::I32)),
+    (b"uint32_t", Keyword::Number(NumKind::U32)),
+    (b"int64_t", Keyword::Number(NumKind::I64)),
+    (b"uint64_t", Keyword::Number(NumKind::U64)),
+];
 
 /// The keywords of C++20 that the language's grammar lacks, the alternative tokens last.
 const RESERVED: &[&[u8]] = &[
@@ -299,13 +340,19 @@ fn strings_comments_and_names_have_their_limits(rt: HostRuntime) -> Result<(), F
         (b"x\n #define", Mode::Source, "name/1@1:1; L1@2:2"),
         // Names.
         (NAME_64, Mode::Source, "name/64@1:1; end@1:65"),
+        (NAME_64, Mode::Woven, "name/64@1:1; end@1:65"),
         (NAME_65, Mode::Source, "L5@1:1"),
+        (NAME_96, Mode::Source, "L5@1:1"),
+        (NAME_97, Mode::Source, "L5@1:1"),
+        (NAME_RESERVED_65, Mode::Source, "L5@1:1"),
         (NAME_65, Mode::Woven, "name/65@1:1; end@1:66"),
         (NAME_96, Mode::Woven, "name/96@1:1; end@1:97"),
         (NAME_97, Mode::Woven, "L5@1:1"),
         (b"a__b", Mode::Source, "L4@1:1"),
         (b"a__b", Mode::Woven, "name/4@1:1; end@1:5"),
         (b"__", Mode::Source, "L4@1:1"),
+        (b"__", Mode::Woven, "name/2@1:1; end@1:3"),
+        (b"_", Mode::Woven, "name/1@1:1; end@1:2"),
         (b"_ a_b_", Mode::Source, "name/1@1:1; name/4@1:3; end@1:7"),
         (
             b"before after around order",
@@ -331,6 +378,13 @@ fn strings_comments_and_names_have_their_limits(rt: HostRuntime) -> Result<(), F
 
 #[test]
 fn keywords_are_no_names(rt: HostRuntime) -> Result<(), Fail> {
+    for (word, keyword) in KEYWORDS {
+        assert_eq!(rt;
+            first_kind(word),
+            Some(TokKind::Keyword(*keyword)),
+            "{word:?}"
+        );
+    }
     for word in RESERVED {
         assert_eq!(rt;
             first_kind(word),
@@ -344,6 +398,11 @@ fn keywords_are_no_names(rt: HostRuntime) -> Result<(), Fail> {
         b"import",
         b"module",
         b"std",
+        b"execution",
+        b"construction",
+        b"destruction",
+        b"that",
+        b"args",
         b"within",
         b"result",
     ] {

@@ -29,12 +29,14 @@ impl<'s> Toks<'s> {
         Toks { items, end }
     }
 
+    /// How many tokens there are.
     pub fn len(&self) -> usize
         ensures { result ≡ length self.now.items }
     {
         self.items.len()
     }
 
+    /// Lends all tokens in order.
     pub fn as_slice(&self) -> &[Tok<'s>]
         ensures { result.now ≡ self.now.items }
     {
