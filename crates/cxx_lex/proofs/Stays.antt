@@ -5,16 +5,14 @@ use Rattle.agxx_base.specs.declared.fault.Refusal.{Refusal}
 use Rattle.agxx_base.specs.declared.kind.Mode.{Mode}
 use Rattle.agxx_base.specs.declared.place.Place.{Place}
 use Rattle.agxx_base.specs.declared.rule.Rule.{Rule}
-use Rattle.cxx_lex.specs.declared.front.Front.{Front}
 use Rattle.cxx_lex.specs.declared.front.Front.TheVariants as front
-use Rattle.cxx_lex.specs.declared.lexer.LexStep.{LexStep}
 use Rattle.cxx_lex.specs.declared.lexer.LexStep.TheVariants as step
 use Rattle.cxx_lex.specs.Left.{Left}
 use Rattle.cxx_lex.specs.Place.{place_after}
 use Rattle.cxx_lex.specs.Scan.{front_of}
 use Rattle.cxx_lex.specs.Tokens.{Token, token_of, IsGap, IsTokenAt, IsRefused, Reads, arrives, past_gap, past_token}
-use Rattle.cxx_lex.specs.Steps.{IsNext, EndsAt, RefusesAt, Steps}
-use Rattle.cxx_lex.specs.Laws.{IsSameStep, StepsInOneWay}
+use Rattle.cxx_lex.specs.Steps.{IsNext, EndsAt, RefusesAt}
+use Rattle.cxx_lex.specs.Laws.{StepsInOneWay}
 use Rattle.cxx_lex.proofs.Fronts.{some-gap, gap-front, token-front, some-token, refused-front}
 
 -- no blank and no comment begins a text
