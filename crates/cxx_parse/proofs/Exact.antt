@@ -6,7 +6,7 @@ use Rattle.cxx_parse.specs.declared.first_form.Operand.{Operand}
 use Rattle.cxx_parse.specs.declared.first_form.Operand.TheVariants as operand
 use Rattle.cxx_parse.specs.declared.first_form.Lexeme.{Lexeme}
 use Rattle.cxx_parse.specs.declared.first_form.Lexeme.TheVariants.{Plain, Quoted}
-use Rattle.cxx_parse.specs.FirstForm.{Statement, added, shifted, operand_lexemes, statements_before, closing, AllPrint}
+use Rattle.cxx_parse.specs.FirstForm.{Statement, added, shifted, statements_before, closing, AllPrint}
 use Rattle.cxx_parse.specs.Reading.{Rest, with_term, with_total, with_bytes, with_bytes_by, ended, begun, begun_by, if_zero, statements_in, rest_in}
 
 mapped : {A B : Type 0} (f : A → B) (o : Option A) (b : B) → option_map f o ≡ Some b → (a : A) × (o ≡ Some a) × (f a ≡ b)

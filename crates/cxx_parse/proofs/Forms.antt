@@ -1,12 +1,12 @@
 -- Tokens are a program of the first form exactly where they are read as one.
-use Rattle.std.proofs.Common.{◌≡◌, ℕ, Bool, true, false, List, [], ◌∷◌, Option, Some, None, refl, sym, ap, ◌∙◌, subst, ◌⊎◌, inl, inr}
+use Rattle.std.proofs.Common.{◌≡◌, Bool, true, false, List, ◌∷◌, Option, Some, None, refl, sym, ap, ◌∙◌, subst, ◌⊎◌, inl, inr}
 use Rattle.std.specs.Prelude.{MatchOption}
 use Rattle.cxx_lex.specs.Tokens.{Token}
 use Rattle.cxx_parse.specs.declared.first_form.Shape.TheVariants as shape
 use Rattle.cxx_parse.specs.declared.first_form.Lexeme.{Lexeme}
-use Rattle.cxx_parse.specs.declared.first_form.Lexeme.TheVariants.{Plain, Quoted}
+use Rattle.cxx_parse.specs.declared.first_form.Lexeme.TheVariants.{Plain}
 use Rattle.cxx_parse.specs.FirstForm.{Statement, program_lexemes, AllPrint, IsFirstForm, is_small, lexemes_of}
-use Rattle.cxx_parse.specs.Reading.{statements_in, program_in, Recognizes}
+use Rattle.cxx_parse.specs.Reading.{program_in, Recognizes}
 use Rattle.cxx_parse.proofs.Exact.{statements-sound, statements-read}
 
 program-sound : (ws : List Lexeme) (sts : List Statement) → program_in ws ≡ Some sts → (ws ≡ program_lexemes sts) × AllPrint sts

@@ -1,5 +1,5 @@
 -- The reading of tokens, part by part in the order of the text.
-use Rattle.std.proofs.Common.{◌≡◌, ◌≢◌, ℕ, zero, suc, List, [], ◌∷◌, ◌++◌, Option, Some, None, refl, sym, ap, ◌∙◌, subst, append_assoc, append-nil, MatchOption}
+use Rattle.std.proofs.Common.{◌≡◌, ℕ, List, [], ◌∷◌, ◌++◌, Option, Some, None, refl, sym, ap, ◌∙◌, subst, append_assoc, append-nil, MatchOption}
 use Rattle.std.specs.Prelude.{option_map, option_and_then, IfSome}
 use Rattle.cxx_parse.specs.declared.first_form.Shape.TheVariants as shape
 use Rattle.cxx_parse.specs.declared.first_form.Operand.{Operand}

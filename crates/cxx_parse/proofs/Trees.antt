@@ -1,5 +1,5 @@
 -- What the tree of a program of the first form prints.
-use Rattle.std.proofs.Common.{◌≡◌, ℕ, ◌+◌, ◌*◌, ◌^◌, ◌<◌, ◌≤◌, Bool, true, false, List, [], ◌∷◌, ◌++◌, length, Option, Some, None, map, sum, sum_by, refl, sym, ap, ◌∙◌, subst, append-nil, zero-add, arith}
+use Rattle.std.proofs.Common.{◌≡◌, ℕ, ◌+◌, ◌*◌, ◌≤◌, Bool, true, false, List, [], ◌∷◌, ◌++◌, length, Option, Some, map, sum, sum_by, refl, sym, ap, ◌∙◌, subst, append-nil, zero-add, arith}
 use Rattle.std.specs.Prelude.{◌&&◌, nat_le}
 use Rattle.std.specs.List.{list_all, flat_map}
 use Rattle.std.specs.Fmt.{decimal}
@@ -16,7 +16,7 @@ use Rattle.cxx_parse.specs.declared.first_form.Operand.{Operand}
 use Rattle.cxx_parse.specs.declared.first_form.Operand.TheVariants as operand
 use Rattle.cxx_parse.specs.FirstForm.{Statement, operand_count, is_small_literal, is_small_operand, is_small_statement, is_small, printed_operand, printed_statement, printed}
 use Rattle.cxx_parse.specs.Shown.{value_of, shown_printed, shown_stmt, shown_stmts, shown_block, shown_program, FitsPrinted, FitsAll, FitsStmt, FitsStmts, FitsBlock, FitsDecls, FitsProgram}
-use Rattle.cxx_parse.specs.TreeOf.{int_literal, added_to, literals_of, IsOperand, Pairwise, AreOperands, IsStatement, AreStatements, IsReturn, IsBody, IsBlock, IsMain, IsProgramOf}
+use Rattle.cxx_parse.specs.TreeOf.{int_literal, added_to, literals_of, IsOperand, AreOperands, IsStatement, AreStatements, IsReturn, IsBlock, IsMain, IsProgramOf}
 
 literals-value : (v : e.ExprTree) (numbers : List Number) → literals_of v ≡ Some numbers → value_of v ≡ sum_by (λ n. n.bits) numbers
 literals-value (e.lit n number) numbers x = let s : number ∷ [] ≡ numbers = cc in sym (zero-add number.bits) ∙ ap (sum_by (λ n. n.bits)) s

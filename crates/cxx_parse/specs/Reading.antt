@@ -1,6 +1,5 @@
 -- The statements that tokens are read as: what is read at a token is put before what is read behind it.
 use Rattle.std.specs.Prelude.{◌≡◌, ◌≤◌, ◌<◌, length, ℕ, zero, suc, List, [], ◌∷◌, ◌++◌, Option, Some, None, option_map, option_and_then, IfSome}
-use Rattle.cxx_parse.specs.declared.first_form.Shape.{Shape}
 use Rattle.cxx_parse.specs.declared.first_form.Shape.TheVariants as shape
 use Rattle.cxx_parse.specs.declared.first_form.Next.{Next}
 use Rattle.cxx_parse.specs.declared.first_form.Next.TheVariants as next
@@ -12,7 +11,7 @@ use Rattle.cxx_parse.specs.declared.first_form.Operand.{Operand}
 use Rattle.cxx_parse.specs.declared.first_form.Operand.TheVariants as operand
 use Rattle.cxx_parse.specs.declared.first_form.Lexeme.{Lexeme}
 use Rattle.cxx_parse.specs.declared.first_form.Lexeme.TheVariants.{Plain, Quoted}
-use Rattle.cxx_parse.specs.FirstForm.{Statement, statements_before, closing, AllPrint, IsFirstForm}
+use Rattle.cxx_parse.specs.FirstForm.{Statement, IsFirstForm}
 use Rattle.cxx_lex.specs.Tokens.{Token}
 
 -- from within a statement: literals that are still added to the operand before, further operands, further statements

@@ -1,4 +1,4 @@
-use Rattle.std.proofs.Common.{◌≡◌, ◌∙◌, sym, ap}
+use Rattle.std.proofs.Common.{◌∙◌, sym, ap}
 use Rattle.cxx_lex.specs.TokList.{tokens_of}
 use Rattle.cxx_parse.specs.Reading.{program_in}
 use Rattle.cxx_parse.proofs.Forms.{unread, read}
