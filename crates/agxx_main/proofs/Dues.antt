@@ -1,6 +1,6 @@
 -- The answer that is due, by what was read.
-use Rattle.std.proofs.Common.{◌≡◌, ◌≢◌, ℕ, ◌+◌, ◌<◌, ◌≤◌, Bool, true, false, List, [], ◌∷◌, length, Option, Some, None, Result, Ok, Err, ◌⊎◌, inl, inr, refl, sym, ap, ◌∙◌, subst, append-nil, arith}
-use Rattle.std.specs.Prelude.{nat_eq, IfOk, IfSome, IsSomeAnd, OnErr, replicate, take, option_map}
+use Rattle.std.proofs.Common.{◌≡◌, ℕ, ◌+◌, ◌<◌, true, List, [], ◌∷◌, length, Option, Some, None, Result, Ok, Err, ◌⊎◌, inl, inr, refl, sym, ap, ◌∙◌, subst, append-nil, arith}
+use Rattle.std.specs.Prelude.{nat_eq, IfOk, IfSome, IsSomeAnd, OnErr, replicate, take}
 use Rattle.std.specs.Str.{bytes_eq}
 use Rattle.std.proofs.lemmas.Bool.Decides.{nat_tests}
 use Rattle.std.proofs.lemmas.List.{length-replicate}
@@ -14,7 +14,7 @@ use Rattle.agxx_base.specs.declared.status.Status.TheVariants as status_of
 use Rattle.cxx_lex.specs.Laws.{IsAlwaysOne}
 use Rattle.agxx_main.specs.declared.answer.Answer.{Answer}
 use Rattle.agxx_main.specs.Commands.{MeansExec, IsUsage}
-use Rattle.agxx_main.specs.Answers.{usage, refused, unreadable, at_beginning, IsRunOf, too_large, IsExecOf, IsAnswer, no_command, exec}
+use Rattle.agxx_main.specs.Answers.{usage, refused, unreadable, at_beginning, IsRunOf, too_large, IsExecOf, no_command, exec}
 use Rattle.agxx_main.specs.Outcome.{IsDue, told, untold, unread, IsExecDue, told_file, untold_file, unread_file, GetsPrefix, Gets, no_memory, GivesUp, Ends}
 use Rattle.agxx_main.specs.Laws.{HasOneAnswer, UsageHasAnswer, ExecHasAnswer}
 use Rattle.cxx_lex.proofs.Readings.{always_one}

@@ -1,5 +1,5 @@
 -- Each file has an answer, and the answer of a program of the first form is what its tree prints.
-use Rattle.std.proofs.Common.{◌≡◌, ◌≢◌, ℕ, ◌+◌, ◌<◌, ◌≤◌, Bool, true, false, List, [], ◌∷◌, length, Result, Ok, Err, ◌⊎◌, inl, inr, refl, sym, ap, ◌∙◌, subst, arith}
+use Rattle.std.proofs.Common.{◌≡◌, ◌≢◌, ℕ, ◌<◌, ◌≤◌, Bool, true, false, List, length, Result, Ok, Err, ◌⊎◌, inl, inr, refl, sym, ap, ◌∙◌, subst, arith}
 use Rattle.std.specs.Prelude.{nat_le, IfOk}
 use Rattle.std.proofs.lemmas.Bool.Decides.{nat_tests}
 use Rattle.agxx_base.specs.declared.fault.Refusal.{Refusal}
@@ -18,7 +18,7 @@ use Rattle.cxx_lex.proofs.Readings.{one_reading, one_refusal, never_both}
 use Rattle.cxx_parse.proofs.Forms.{form-decided, form-unique}
 use Rattle.cxx_parse.proofs.Trees.{shown-program, fits-program}
 use Rattle.agxx_main.specs.declared.answer.Answer.{Answer}
-use Rattle.agxx_main.specs.Answers.{refused, ended, unreadable, at_beginning, IsRunOf, too_large, no_tokens, runs, unbuilt}
+use Rattle.agxx_main.specs.Answers.{refused, ended, at_beginning, IsRunOf, too_large, no_tokens, runs, unbuilt}
 
 -- what holds of a result where another thing does
 pub if-ok : {T E : Type 0} (r : Result T E) (P Q : T → Type 0) → ((a : T) → P a → Q a) → IfOk r P → IfOk r Q

@@ -1,5 +1,5 @@
 -- What the words of a command line mean.
-use Rattle.std.specs.Prelude.{◌≡◌, ◌≢◌, ◌≤◌, ◌<◌, ◌-◌, ℕ, List, [], ◌∷◌, Option, Some, drop, length, slice_get, codes}
+use Rattle.std.specs.Prelude.{◌≡◌, ◌≢◌, ◌≤◌, ◌<◌, ◌-◌, ℕ, List, [], ◌∷◌, Some, drop, length, slice_get, codes}
 use Rattle.std.specs.Str.{IsUtf8}
 
 -- A word that names a program file: text of at most 255 bytes that ends in `.cc`, with something before it, and doesn't

@@ -1,5 +1,5 @@
 -- What a call of the program does, whatever fails.
-use Rattle.std.specs.Prelude.{◌≡◌, ◌≢◌, ◌≤◌, ◌⊎◌, ℕ, List, length, take, Option, Some, None}
+use Rattle.std.specs.Prelude.{◌≡◌, ◌≢◌, ◌≤◌, ℕ, List, length, take, Option, Some, None}
 use Rattle.agxx_base.specs.Causes.{Rose}
 use Rattle.agxx_base.specs.Files.{Listing, file_named}
 use Rattle.agxx_base.specs.Sink.{appended}
