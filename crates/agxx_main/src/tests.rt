@@ -8,6 +8,10 @@ use std::test::Fail;
 
 const SUM: &[u8] = b"int main(){ std::cout << 2+3 << \"\\n\"; return 0; }";
 
+/// A name of 256 bytes.
+const LONG: &[u8] =
+    b"aaaaaaaaaaaaaaaaaaaaaaaaaaaaaaaaaaaaaaaaaaaaaaaaaaaaaaaaaaaaaaaaaaaaaaaaaaaaaaaaaaaaaaaaaaaaaaaaaaaaaaaaaaaaaaaaaaaaaaaaaaaaaaaaaaaaaaaaaaaaaaaaaaaaaaaaaaaaaaaaaaaaaaaaaaaaaaaaaaaaaaaaaaaaaaaaaaaaaaaaaaaaaaaaaaaaaaaaaaaaaaaaaaaaaaaaaaaaaaaaaaaaaaaaaaaaa.cc";
+
 fn words_of(alloc: Global, words: &[&[u8]]) -> Result<Words, Memory> {
     let mut list = Words::new(alloc);
     for word in words {
@@ -97,7 +101,7 @@ fn a_file_above_its_limit_is_refused(rt: HostRuntime) -> Result<(), Fail> {
     let words = words_of(alloc, &[b"exec", b"a.cc"])?;
     let unbuilt = b"a.cc:1:1: U1: form not built\n".as_slice();
     for (bytes, status, line) in [
-        (65_536, Status::Done, b"ended 0\n".as_slice()),
+        (65_536_usize, Status::Done, b"ended 0\n".as_slice()),
         (65_537, Status::Refused, unbuilt),
         (16_777_216, Status::Refused, unbuilt),
         (
@@ -107,10 +111,9 @@ fn a_file_above_its_limit_is_refused(rt: HostRuntime) -> Result<(), Fail> {
         ),
     ] {
         let mut files = MemFiles::new(alloc);
-        let mut text = vec![in alloc; b' '; bytes]?;
-        if SUM.len() <= text.len() {
-            text[..SUM.len()].copy_from_slice(SUM);
-        }
+        let blanks = vec![in alloc; b' '; bytes.saturating_sub(SUM.len())]?;
+        let mut text = Vec::from_slice(alloc, SUM)?;
+        text.extend_from_slice(blanks.as_slice())?;
         files.add(Text::from_bytes(alloc, b"a.cc")?, Text::from_vec(text))?;
         let mut out = MemSink::new(alloc, 10)?;
         let mut diag = MemSink::new(alloc, 100)?;
@@ -127,8 +130,6 @@ fn a_file_above_its_limit_is_refused(rt: HostRuntime) -> Result<(), Fail> {
 fn other_words_are_a_usage_fault(rt: HostRuntime) -> Result<(), Fail> {
     let usage =
         b"usage: agxx weave CC AH.. | exec CC [PLAN] | run PLAN CC AH.. | source PLAN CC AH.. | points CC AH.. | demo N\n".as_slice();
-    let mut long = [b'a'; 256];
-    long[253..].copy_from_slice(b".cc");
     for words in [
         [].as_slice(),
         &[b"weave".as_slice()],
@@ -142,7 +143,7 @@ fn other_words_are_a_usage_fault(rt: HostRuntime) -> Result<(), Fail> {
         &[b"exec".as_slice(), b"a.CC"],
         &[b"exec".as_slice(), b"\xff.cc"],
         &[b"exec".as_slice(), b"a.cc", b"a.cc"],
-        &[b"exec".as_slice(), &long],
+        &[b"exec".as_slice(), LONG],
     ] {
         expect(&rt, rt.alloc(), words, SUM, (Status::Usage, b"", usage))?;
     }
