@@ -89,7 +89,7 @@ module _ (special : SpecialName → ℕ) (g : Grammar) (below : ℕ) (p p' : Par
       ))
       (λ ys. done (x ∷ ys)) rest (items_more (λ q. items_from p n q) rest)
       (good_more n rest others)
-      (λ ys q front u e. good_done within (E.spelled x ++ T.spelled ys) F (λ q r. done (x ∷ ys) q ≡ r) q (x ∷ ys) (v, u) (spell-cons special g x ys) (λ other h. refl))
+      (λ ys q front u t e. good_done within (E.spelled x ++ T.spelled ys) F (λ q r. done (x ∷ ys) q ≡ r) q (x ∷ ys) (v, u) (spell-cons special g x ys) (λ other h. refl))
 
   good_items_from : (n : ℕ) (s : Within) → length s.words < n → Good within [] F AgI s (items_from p n s)
   unfolding items_from
@@ -98,7 +98,7 @@ module _ (special : SpecialName → ℕ) (g : Grammar) (below : ℕ) (p p' : Par
       good_then within [] E F (λ q r. p' q ≡ r) AgM AgI step_item stop_item default (0, tt)
       (λ x v. (x ∷ [], w.sign sg.CloseParen ∷ [], (v.0, (v.1, tt)), ap (λ q. q ++ w.sign sg.CloseParen ∷ []) (append-nil (E.spelled x))))
       (λ x rest. front_of (x ∷ []) (items_more (λ q. items_from p n q) rest)) s (p s) (G s)
-      (λ x rest front v e. next_item n x rest v (λ c. good_items_from n (advanced rest)
+      (λ x rest front v t e. next_item n x rest v (λ c. good_items_from n (advanced rest)
       (omega (arith, h, ap (λ q. length q.words) e, length-append front rest.words, length-after rest.words, true-sees sg.Comma rest.words c))))
 
   pub good_items : Goods within L (items p) (items p')

@@ -66,7 +66,7 @@ module _ (special : SpecialName → ℕ) (g : Grammar) (depth l : ℕ) (p p' : P
         spelled o sofar second ∙ sym (append-nil (pre ++ K.spelled second)),
       ))
       (λ second. chain p (suc l) n (joined o sofar second)) s (p s) (G s)
-      (λ second rest front u q. subst (λ t. Good within t K (AgC (joined o sofar second)) rest (chain p (suc l) n (joined o sofar second) rest)) (spelled o sofar second)
+      (λ second rest front u i q. subst (λ t. Good within t K (AgC (joined o sofar second)) rest (chain p (suc l) n (joined o sofar second) rest)) (spelled o sofar second)
       (go second rest (fits_joined depth o sofar second e v u) (omega (arith, ap (λ q. length q.words) q, length-append front rest.words))))
 
   good_taken : (n : ℕ) (sofar : ExprTree) (k : ℕ) (ts : Tokens) (o : Placed BinOp) → K.IsOne sofar → ts ≡ binary_token o ∷ after ts → level_of o.item ≡ suc l

@@ -177,7 +177,7 @@ cast_spelled special type_of.Void num = absurd num
 cast_spelled special (type_of.Pointer class) num = absurd num
 cast_spelled special type_of.Mutex num = absurd num
 
-blank-left_by : (n : Node) (c : Callee) → blank_left (left_by n c) ≡ left_by no_node (blank_callee c)
+pub blank-left_by : (n : Node) (c : Callee) → blank_left (left_by n c) ≡ left_by no_node (blank_callee c)
 blank-left_by n (callee_of.Bare r) = refl
 blank-left_by n (callee_of.Member s) = refl
 

@@ -160,9 +160,9 @@ module _ {S A B : Type 0} (R : Reading S) (pre : List Word) (KA : Sort A) (KB : 
 
   -- one parser and then another
   pub good_then : (f : A → Parse S B) (s : S) (o : Outcome S A) → Good R [] KA AgA s o
-      → ((a : A) (rest : S) (front : Tokens) → KA.IsOne a → s ≡ R.before front rest → Good R (pre ++ KA.spelled a) KB (AgF a) rest (f a rest))
+      → ((a : A) (rest : S) (front : Tokens) → KA.IsOne a → KA.spelled a ≡ words_of front → s ≡ R.before front rest → Good R (pre ++ KA.spelled a) KB (AgF a) rest (f a rest))
       → Good R pre KB AgB s (and_then o f)
-  good_then f s (done a mid) g go = join a s mid g (f a mid) (go a mid g.front g.valid g.whole)
+  good_then f s (done a mid) g go = join a s mid g (f a mid) (go a mid g.front g.valid g.text g.whole)
   good_then f s (failed Syntax rest) g go = record {
     front = g.front;
     whole = g.whole;
@@ -264,7 +264,7 @@ module _ {S A B : Type 0} (R : Reading S) (pre : List Word) (KA : Sort A) (KB : 
       → ((a : A) (rest : S) → KA.IsOne a → Good R (pre ++ KA.spelled a) KB (λ q r. f' a q ≡ r) rest (f a rest))
       → Good R pre KB (λ q r. and_then (p' q) f' ≡ r) s (and_then o f)
   good_bind f s o g go = good_then R pre KA KB (λ q r. p' q ≡ r) (λ a q r. f' a q ≡ r) (λ q r. and_then (p' q) f' ≡ r)
-      (λ a front other r e h. ap (λ o. and_then o f') e ∙ h) (λ q rest e. ap (λ o. and_then o f') e) first is_first lift f s o g (λ a rest front v e. go a rest v)
+      (λ a front other r e h. ap (λ o. and_then o f') e ∙ h) (λ q rest e. ap (λ o. and_then o f') e) first is_first lift f s o g (λ a rest front v t e. go a rest v)
 
 -- the same values as another sort, behind what was read before
 pub good_as : {S A : Type 0} (R : Reading S) (pre : List Word) (KA : Sort A) (KB : Sort A) (Again : S → Outcome S A → Type 0)

@@ -37,11 +37,11 @@ use Rattle.cxx_expr.proofs.Sorts.{default, exprs, enclosures, lists, Fits-weaken
 use Rattle.cxx_expr.proofs.Arguments.{good_closed, good_items}
 use Rattle.cxx_expr.proofs.Chains.{good_chain}
 
-left_by-spelled : (special : SpecialName → ℕ) (n : Node) (c : Callee) → spell_left special (left_by n c) ≡ spell_callee c
+pub left_by-spelled : (special : SpecialName → ℕ) (n : Node) (c : Callee) → spell_left special (left_by n c) ≡ spell_callee c
 left_by-spelled special n (callee_of.Bare r) = refl
 left_by-spelled special n (callee_of.Member s) = refl
 
-left_by-fits : (g : Grammar) (depth : ℕ) (n : Node) (c : Callee) → FitsLeft g depth (left_by n c)
+pub left_by-fits : (g : Grammar) (depth : ℕ) (n : Node) (c : Callee) → FitsLeft g depth (left_by n c)
 left_by-fits g depth n (callee_of.Bare r) = tt
 left_by-fits g depth n (callee_of.Member s) = tt
 

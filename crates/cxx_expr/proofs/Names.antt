@@ -124,7 +124,7 @@ good_after_ref r ts =
     (selected (base_of.Arrow r) (after ts)) (λ q o a. a) (good_selected (base_of.Arrow r) (after ts))))
     (λ s. good_done tokens (spell_ref r) callees (λ q o. done (callee_of.Bare r) q ≡ o) ts (callee_of.Bare r) tt refl (λ other h. refl))
 
-good_selected_of : (r : Ref) (ts : Tokens) → Good tokens (spell_ref r) callees (λ q o. selected_of r q ≡ o) ts (selected_of r ts)
+pub good_selected_of : (r : Ref) (ts : Tokens) → Good tokens (spell_ref r) callees (λ q o. selected_of r q ≡ o) ts (selected_of r ts)
 unfolding selected_of
 good_selected_of r ts =
     good_if tokens sg.Dot (spell_ref r) callees (λ q o. selected (base_of.Dot r) (after q) ≡ o) (λ q o. after_ref r q ≡ o) (λ q o. selected_of r q ≡ o) ts

@@ -1,6 +1,6 @@
 //! Full expressions: those that are no part of another one.
 
-ghost use Rattle.std.specs.Prelude.{◌≡◌, ◌≤◌, length, map};
+ghost use Rattle.std.specs.Prelude.{◌≡◌, ◌≤◌, length};
 ghost use Rattle.cxx_tree.specs.ExprTree.{expr_tree};
 ghost use Rattle.cxx_expr.specs.Full as grammar;
 ghost use Rattle.cxx_expr.specs.Outcome.{Reads};
@@ -9,9 +9,7 @@ use crate::operator::{EXPR_LEVEL, SUM_LEVEL};
 use crate::parser::Parser;
 use crate::stop::Stop;
 use crate::within::Within;
-use agxx_base::Sign;
 use cxx_tree::Expr;
-use sqlite_items::Items;
 
 /// How many operators a full expression may have.
 const MOST_OPERATORS: usize = 400;
@@ -31,41 +29,6 @@ impl<'w> Parser<'w> {
         ensures left { length self.new ≤ length self.old }
     {
         self.full_level(depth, SUM_LEVEL)
-    }
-
-    /// Arguments that are each a full expression, with their parentheses, of which the opening one comes next.
-    #[tactic(auto, unfolding(crate::specs::Full::full_arguments))]
-    pub fn arguments(&mut self, depth: usize) -> Result<Items<Expr>, Stop>
-        ensures reads { Reads (map expr_tree) (grammar.full_arguments grammar.most_operators depth self.old) result self.new }
-        ensures left { length self.new ≤ length self.old }
-    {
-        if depth == 0 {
-            return Err(Stop::Deep);
-        }
-        self.advance();
-        self.full_items(depth - 1)
-    }
-
-    #[tactic(auto, unfolding(crate::specs::Full::full_items, crate::specs::Descent::items))]
-    fn full_items(&mut self, depth: usize) -> Result<Items<Expr>, Stop>
-        ensures reads { Reads (map expr_tree) (grammar.full_items grammar.most_operators depth self.old) result self.new }
-        ensures left { length self.new ≤ length self.old }
-    {
-        let mut found = Items::new(self.alloc);
-        if self.sees(Sign::CloseParen) {
-            self.advance();
-            return Ok(found);
-        }
-        'items: loop {
-            let item = self.expr(depth)?;
-            found.push(item)?;
-            if !self.sees(Sign::Comma) {
-                break;
-            }
-            self.advance();
-        }
-        self.expect(Sign::CloseParen)?;
-        Ok(found)
     }
 
     #[tactic(auto, unfolding(crate::specs::Full::full_level))]

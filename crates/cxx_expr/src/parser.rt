@@ -64,6 +64,11 @@ impl<'w> Parser<'w> {
         self.left.len()
     }
 
+    /// Where the trees that are read lie.
+    pub fn alloc(&self) -> Global {
+        self.alloc
+    }
+
     /// The word that comes next.
     pub fn peek(&self) -> Option<WordAt<'w>>
         ensures { option_map tokens.token_of result ≡ tokens.next self.now }
@@ -71,6 +76,16 @@ impl<'w> Parser<'w> {
         match self.left {
             [] => None,
             [next, ..] => Some(*next),
+        }
+    }
+
+    /// The word that comes after the next one.
+    pub fn second(&self) -> Option<WordAt<'w>>
+        ensures { option_map tokens.token_of result ≡ tokens.next (tokens.after self.now) }
+    {
+        match self.left {
+            [_, second, ..] => Some(*second),
+            _ => None,
         }
     }
 
@@ -174,8 +189,9 @@ impl<'w> Parser<'w> {
         Ok(Callee::Member(Selector { base, name }))
     }
 
+    /// The rest of what begins with a reference to a name: that alone, or a member of it.
     #[tactic(auto, unfolding(crate::specs::Lefts::selected_of))]
-    fn selected_of(&mut self, reference: Ref) -> Result<Callee, Stop>
+    pub fn selected_of(&mut self, reference: Ref) -> Result<Callee, Stop>
         ensures left { length self.new ≤ length self.old }
         ensures reads { Reads (λ c. c) (grammar.selected_of reference self.old) result self.new }
     {

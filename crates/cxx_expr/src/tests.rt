@@ -104,9 +104,9 @@ fn counts_operators(rt: HostRuntime) -> Result<(), Fail> {
     Ok(())
 }
 
-/// A sum ends before `<<`, and arguments are `(a, ::a.a(), new a)`.
+/// A sum ends before `<<`.
 #[test]
-fn reads_parts_of_statements(rt: HostRuntime) -> Result<(), Fail> {
+fn sums_end_before_shifts(rt: HostRuntime) -> Result<(), Fail> {
     let printed = [
         number(1),
         sign(2, Sign::Plus),
@@ -116,26 +116,5 @@ fn reads_parts_of_statements(rt: HostRuntime) -> Result<(), Fail> {
     let mut parser = Parser::new(rt.alloc(), printed.as_slice());
     assert!(rt; parser.sum(0).is_ok());
     assert!(rt; parser.sees(Sign::ShiftLeft));
-    let given = [
-        sign(1, Sign::OpenParen),
-        name(2),
-        sign(3, Sign::Comma),
-        sign(5, Sign::ColonColon),
-        name(7),
-        sign(8, Sign::Dot),
-        name(9),
-        sign(10, Sign::OpenParen),
-        sign(11, Sign::CloseParen),
-        sign(12, Sign::Comma),
-        at(14, Word::Keyword(Keyword::New)),
-        name(18),
-        sign(19, Sign::CloseParen),
-    ];
-    let mut parser = Parser::new(rt.alloc(), given.as_slice());
-    let Some(arguments) = parser.arguments(2).ok() else {
-        return Err("no arguments")?;
-    };
-    assert_eq!(rt; arguments.as_slice().len(), 3);
-    assert!(rt; parser.is_empty());
     Ok(())
 }
