@@ -1,0 +1,16 @@
+pub mod Modes
+pub mod Turns
+pub mod FullParts
+pub mod FullTypes
+pub mod FullExprs
+pub mod FullSimples
+pub mod FullStreams
+pub mod FullStatements
+pub mod Sorts
+pub mod GoodParts
+pub mod GoodLists
+pub mod GoodTypes
+pub mod GoodArguments
+pub mod GoodSimples
+pub mod GoodStreams
+pub mod GoodStatements
