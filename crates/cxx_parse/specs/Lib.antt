@@ -1,5 +1,7 @@
-pub mod FirstForm
-pub mod Reading
-pub mod Shown
-pub mod TreeOf
+pub mod Constants
+pub mod Classes
+pub mod Declarations
+pub mod Programs
+pub mod Numbering
 pub mod Parsed
+pub mod Owned

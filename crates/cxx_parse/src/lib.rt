@@ -1,14 +1,18 @@
-//! The parser of programs: from tokens to trees. Today it reads the first form of a program, a `main` that prints
-//! strings and sums of literals, and refuses every other by `U1`. The layer above calls `parse_program`, and cites
-//! `Parsed`, `FirstForm`, `TreeOf` and `Shown` of the definitions.
+//! The parser of programs: from tokens to trees. The layer above calls `parse_program`, and cites `Parsed` and `Numbering`
+//! of the definitions.
+//!
+//! Each rule of the grammar is a function of the code, and the same function is defined over lists of words in `specs/`.
+//! What the answers mean is told without it: by the spelling of trees.
 #![tactic(auto)]
 
-mod builder;
-mod first_form;
-mod form;
-mod limits;
+mod classes;
+mod constants;
+mod declarations;
+mod programs;
 mod read;
-mod shapes;
+mod words;
 
-pub use first_form::{Lexeme, Operand, Shape};
-pub use read::parse_program;
+pub use read::{parse_program, spelling_is_unique};
+
+#[cfg(test)]
+mod tests;
