@@ -1,0 +1,15 @@
+pub mod Twice
+pub mod Lists
+pub mod Settled
+pub mod Relabelled
+pub mod Assigned
+pub mod Returned
+pub mod ClassTwice
+pub mod Idempotent
+pub mod Blanked
+pub mod Loops
+pub mod Views
+pub mod Bodies
+pub mod Listings
+pub mod Declared
+pub mod Counted

@@ -1,0 +1,10 @@
+pub mod Numbers
+pub mod Directives
+pub mod Labels
+pub mod Completion
+pub mod Initialisers
+pub mod Entry
+pub mod Declarations
+pub mod Normal
+pub mod Listing
+pub mod Gives
