@@ -1,0 +1,4 @@
+pub mod Wide
+pub mod Range
+pub mod Kept
+pub mod Stops

@@ -1,0 +1,5 @@
+pub mod Kinds
+pub mod Numbers
+pub mod Bounds
+pub mod Arithmetic
+pub mod Laws
