@@ -16,7 +16,7 @@ use Rattle.agxx_main.specs.declared.answer.Answer.{Answer}
 use Rattle.agxx_main.specs.Commands.{MeansExec, IsUsage}
 use Rattle.agxx_main.specs.Answers.{usage, refused, unreadable, at_beginning, IsRunOf, too_large, IsExecOf, no_command, exec}
 use Rattle.agxx_main.specs.Outcome.{IsDue, told, untold, unread, IsExecDue, told_file, untold_file, unread_file, GetsPrefix, Gets, no_memory, GivesUp, Ends}
-use Rattle.agxx_main.specs.Laws.{HasOneAnswer, UsageHasAnswer, ExecHasAnswer}
+use Rattle.agxx_main.specs.Laws.{IsAlike, same, HasOneAnswer, UsageHasAnswer, ExecHasAnswer}
 use Rattle.cxx_lex.proofs.Readings.{always_one}
 use Rattle.agxx_main.proofs.Runs.{has-run, never-unread, one-run}
 
@@ -109,12 +109,12 @@ one-file [] file other m n = absurd m
 one-file (command ∷ []) file other m n = absurd m
 one-file (command ∷ word ∷ third ∷ rest) file other m n = absurd m
 
-one-exec : (file : List ℕ) (o : Option (List ℕ)) (a b : Answer) → IsExecOf file o a → IsExecOf file o b → a ≡ b
-one-exec file None a b x y = x ∙ sym y
+one-exec : (file : List ℕ) (o : Option (List ℕ)) (a b : Answer) → IsExecOf file o a → IsExecOf file o b → IsAlike a b
+one-exec file None a b x y = same (x ∙ sym y)
 one-exec file (Some text) a b x y = one-run file text a b x y
 
 pub one-answer : HasOneAnswer
-one-answer words files a b (no_command u e) (no_command v f) = e ∙ sym f
+one-answer words files a b (no_command u e) (no_command v f) = same (e ∙ sym f)
 one-answer words files a b (no_command u e) (exec file m x) = absurd (u file m)
 one-answer words files a b (exec file m x) (no_command u e) = absurd (u file m)
 one-answer words files a b (exec file m x) (exec other n y) =

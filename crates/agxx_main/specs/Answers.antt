@@ -8,7 +8,10 @@ use Rattle.agxx_base.specs.declared.rule.Rule.{Rule}
 use Rattle.agxx_base.specs.declared.rule.Rule.TheVariants.{S1, U1}
 use Rattle.agxx_base.specs.declared.status.Status.TheVariants as status_of
 use Rattle.cxx_lex.specs.Tokens.{Token, HasTokens, RefusedAt}
-use Rattle.cxx_parse.specs.FirstForm.{Statement, IsFirstForm, printed}
+use Rattle.cxx_tree.specs.ProgramTree.{ProgramTree}
+use Rattle.cxx_parse.specs.Numbering.{names_of}
+use Rattle.cxx_parse.specs.Parsed.{IsParsed, IsRefused}
+use Rattle.first_form.specs.FirstForm.{Statement, IsFirstForm, printed}
 use Rattle.agxx_main.specs.declared.answer.Answer.{Answer}
 use Rattle.agxx_main.specs.Commands.{MeansExec, IsUsage}
 use Rattle.agxx_main.specs.Lines.{usage_line, ended_line, unreadable_line, refusal_line}
@@ -29,14 +32,31 @@ ended out = record { status = status_of.Done; out = out; diag = ended_line }
 abbrev pub at_beginning : Rule → Refusal
 at_beginning rule = record { rule = rule; place = record { file = 0; line = 1; column = 1 } }
 
--- What `exec` answers for a file of these bytes: a refusal for its size, its tokens or its form, or the run of its
--- `main`, which ends with 0.
+-- the names of a program of these tokens alone
+abbrev pub names_in : List Token → List (List ℕ)
+names_in tokens = names_of [] tokens
+
+-- the tokens are this program
+abbrev pub IsProgramIn : List Token → Place → ProgramTree → Type 0
+IsProgramIn tokens end program = IsParsed Woven (names_in tokens) tokens end program
+
+abbrev pub HasProgram : List Token → Place → Type 0
+HasProgram tokens end = (program : ProgramTree) × IsProgramIn tokens end program
+
+-- the refusal of tokens that are no program
+abbrev pub IsRefusalIn : List Token → Place → Refusal → Type 0
+IsRefusalIn tokens end refusal = IsRefused Woven (names_in tokens) tokens end refusal
+
+-- What `exec` answers for a file of these bytes: a refusal for its size, its tokens, its grammar or its form, or the run
+-- of its `main`, which ends with 0.
 pub data IsRunOf (file text : List ℕ) (answer : Answer) : Type 0 where
   too_large : 16777216 < length text → answer ≡ refused file (at_beginning S1) → IsRunOf file text answer
   no_tokens : (refusal : Refusal) → length text ≤ 16777216 → RefusedAt Woven 0 text refusal → answer ≡ refused file refusal → IsRunOf file text answer
-  runs : (tokens : List Token) (end : Place) (statements : List Statement) → length text ≤ 65536 → HasTokens Woven 0 text tokens end → IsFirstForm tokens statements
-      → answer ≡ ended (printed statements) → IsRunOf file text answer
-  unbuilt : (tokens : List Token) (end : Place) → length text ≤ 16777216 → HasTokens Woven 0 text tokens end
+  no_program : (tokens : List Token) (end : Place) (refusal : Refusal) → length text ≤ 16777216 → HasTokens Woven 0 text tokens end → IsRefusalIn tokens end refusal
+      → answer ≡ refused file refusal → IsRunOf file text answer
+  runs : (tokens : List Token) (end : Place) (program : ProgramTree) (statements : List Statement) → length text ≤ 65536 → HasTokens Woven 0 text tokens end
+      → IsProgramIn tokens end program → IsFirstForm tokens statements → answer ≡ ended (printed statements) → IsRunOf file text answer
+  unbuilt : (tokens : List Token) (end : Place) (program : ProgramTree) → length text ≤ 16777216 → HasTokens Woven 0 text tokens end → IsProgramIn tokens end program
       → ((statements : List Statement) → IsFirstForm tokens statements → length text ≤ 65536 → ⊥) → answer ≡ refused file (at_beginning U1) → IsRunOf file text answer
 
 -- what `exec` answers for a file of this name

@@ -1,12 +1,25 @@
 -- That the answer for words and files is a definition.
-use Rattle.std.specs.Prelude.{◌≡◌, ℕ, List}
+use Rattle.std.specs.Prelude.{◌≡◌, ◌⊎◌, ℕ, List}
+use Rattle.agxx_base.specs.declared.fault.Refusal.{Refusal}
+use Rattle.agxx_base.specs.declared.rule.Rule.{Rule}
+use Rattle.agxx_base.specs.declared.rule.Rule.TheVariants.{G1, G2}
 use Rattle.agxx_base.specs.Files.{Listing}
 use Rattle.agxx_main.specs.declared.answer.Answer.{Answer}
 use Rattle.agxx_main.specs.Commands.{MeansExec, IsUsage}
-use Rattle.agxx_main.specs.Answers.{IsAnswer}
+use Rattle.agxx_main.specs.Answers.{refused, IsAnswer}
+
+-- the rules of the grammar of programs
+abbrev pub IsGrammarRule : Rule → Type 0
+IsGrammarRule rule = (rule ≡ G1) ⊎ (rule ≡ G2)
+
+-- Two answers are the same, or both refuse one file by its grammar, of which at least one tells that it is too deep: whether
+-- that is told of a file that is no program within the limits, and where, isn't determined yet.
+pub data IsAlike (a b : Answer) : Type 0 where
+  same : a ≡ b → IsAlike a b
+  deep : (file : List ℕ) (r s : Refusal) → a ≡ refused file r → b ≡ refused file s → IsGrammarRule r.rule → IsGrammarRule s.rule → (r.rule ≡ G2) ⊎ (s.rule ≡ G2) → IsAlike a b
 
 abbrev pub HasOneAnswer : Type 0
-HasOneAnswer = (words : List (List ℕ)) (files : Listing) (a b : Answer) → IsAnswer words files a → IsAnswer words files b → a ≡ b
+HasOneAnswer = (words : List (List ℕ)) (files : Listing) (a b : Answer) → IsAnswer words files a → IsAnswer words files b → IsAlike a b
 
 abbrev pub UsageHasAnswer : Type 0
 UsageHasAnswer = (words : List (List ℕ)) (files : Listing) → IsUsage words → (a : Answer) × IsAnswer words files a

@@ -5,16 +5,16 @@ ghost use Rattle.cxx_lex.specs.TokList.{tokens_of};
 ghost use Rattle.cxx_lex.specs.Tokens.{HasTokens};
 ghost use Rattle.agxx_base.specs.declared.kind.Mode.TheVariants.{Woven};
 ghost use Rattle.agxx_main.specs.Answers as answers;
-ghost use Rattle.agxx_main.specs.Answers.{IsRunOf};
+ghost use Rattle.agxx_main.specs.Answers.{HasProgram, IsRunOf};
 ghost use Rattle.agxx_main.specs.Outcome.{IsExecDue};
 
 use crate::answer::Answer;
-use crate::output::output_of;
 use agxx_base::{
     Fault, Files, Memory, Mode, Names, Place, ReadError, Refusal, Rule, Text, read_whole,
 };
 use cxx_lex::{Toks, lex_all};
 use cxx_parse::parse_program;
+use first_form::{output_of, statements_of};
 use std::alloc::Global;
 
 /// The most bytes of a program file that is read in mode Woven.
@@ -36,18 +36,31 @@ fn at_beginning(rule: Rule) -> Refusal
     }
 }
 
-/// The answer for the tokens of a file.
+/// The answer for the tokens of a program.
 fn run(alloc: Global, file: &Text, text: &Text, toks: &Toks) -> Result<Answer, Memory>
     requires small { length text.now ≤ 16777216 }
     requires tokens { HasTokens Woven 0 text.now (tokens_of toks.now.items) toks.now.end }
+    requires program { HasProgram (tokens_of toks.now.items) toks.now.end }
     ensures { IfOk result (λ answer. IsRunOf file.now text.now answer) }
 {
     if text.bytes().len() > LARGEST_FIRST_FORM {
         return Answer::refused(alloc, file, at_beginning(Rule::U1));
     }
+    match statements_of(alloc, toks.as_slice())? {
+        None => Answer::refused(alloc, file, at_beginning(Rule::U1)),
+        Some(statements) => Answer::ended(alloc, output_of(alloc, statements.as_slice())?),
+    }
+}
+
+/// The answer for the tokens of a file.
+fn parse(alloc: Global, file: &Text, text: &Text, toks: &Toks) -> Result<Answer, Memory>
+    requires small { length text.now ≤ 16777216 }
+    requires tokens { HasTokens Woven 0 text.now (tokens_of toks.now.items) toks.now.end }
+    ensures { IfOk result (λ answer. IsRunOf file.now text.now answer) }
+{
     let mut names = Names::new(alloc);
     match parse_program(alloc, &mut names, toks, Mode::Woven) {
-        Ok(program) => Answer::ended(alloc, output_of(alloc, &program)?),
+        Ok(_) => run(alloc, file, text, toks),
         Err(Fault::Refused(refusal)) => Answer::refused(alloc, file, refusal),
         Err(Fault::Memory) => Err(Memory),
     }
@@ -59,7 +72,7 @@ fn answer_text(alloc: Global, file: &Text, text: &Text) -> Result<Answer, Memory
     ensures { IfOk result (λ answer. IsRunOf file.now text.now answer) }
 {
     match lex_all(alloc, text.bytes(), 0, Mode::Woven) {
-        Ok(toks) => run(alloc, file, text, &toks),
+        Ok(toks) => parse(alloc, file, text, &toks),
         Err(Fault::Refused(refusal)) => Answer::refused(alloc, file, refusal),
         Err(Fault::Memory) => Err(Memory),
     }

@@ -5,7 +5,6 @@
 
 mod answer;
 mod exec;
-mod output;
 #[cfg(test)]
 mod tests;
 mod top;

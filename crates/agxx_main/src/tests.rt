@@ -78,8 +78,7 @@ fn other_programs_are_refused(rt: HostRuntime) -> Result<(), Fail> {
         (b"", unbuilt),
         (b"int main() { std::cout << 0x10; return 0; }", unbuilt),
         (b"int main() { std::cout << 10000; return 0; }", unbuilt),
-        (b"int main() { std::cout; return 0; }", unbuilt),
-        (b"int main() { std::cout << \"a\" + 1; return 0; }", unbuilt),
+        (b"class C { std::mutex m; }; C c;", unbuilt),
         (b"int main() { return 0; } int x;", unbuilt),
         (b"int __x;", unbuilt),
         (b"int x = 012;", b"a.cc:1:10: L1: unexpected byte\n"),
@@ -88,6 +87,33 @@ fn other_programs_are_refused(rt: HostRuntime) -> Result<(), Fail> {
             b"a.cc:2:2: L3: number too large\n",
         ),
         (b"/* open", b"a.cc:1:1: L2: not closed\n"),
+    ] {
+        expect(&rt, rt.alloc(), &exec, text, (Status::Refused, b"", line))?;
+    }
+    Ok(())
+}
+
+#[test]
+fn what_is_no_program_is_refused(rt: HostRuntime) -> Result<(), Fail> {
+    let exec = [b"exec".as_slice(), b"a.cc"];
+    for (text, line) in [
+        (
+            b"int main() { std::cou".as_slice(),
+            b"a.cc:1:19: G1: unexpected token\n".as_slice(),
+        ),
+        (b"int main() {", b"a.cc:1:13: G1: unexpected token\n"),
+        (
+            b"int main() { else { } }",
+            b"a.cc:1:14: G1: unexpected token\n",
+        ),
+        (
+            b"int main() {\n std::cout;\n}",
+            b"a.cc:2:11: G1: unexpected token\n",
+        ),
+        (
+            b"int main() { std::cout << \"a\" + 1; return 0; }",
+            b"a.cc:1:31: G1: unexpected token\n",
+        ),
     ] {
         expect(&rt, rt.alloc(), &exec, text, (Status::Refused, b"", line))?;
     }
