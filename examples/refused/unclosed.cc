@@ -1,0 +1,3 @@
+// A program that ends too early.
+int main() {
+    std::cout << 2 + 3;
