@@ -50,7 +50,7 @@ pub(crate) fn lowest(kind: NumKind, bits: u128) -> u64
 }
 
 /// The kind in which a lone operand is taken.
-pub(crate) fn promoted(kind: NumKind) -> NumKind
+pub fn promoted(kind: NumKind) -> NumKind
     ensures { result ≡ kinds.promoted kind }
 {
     if width(kind) < 32 { NumKind::I32 } else { kind }
@@ -71,7 +71,7 @@ fn winner(a: NumKind, b: NumKind) -> NumKind
 }
 
 /// The kind to which two operands are converted.
-pub(crate) fn common_kind(a: NumKind, b: NumKind) -> NumKind
+pub fn common_kind(a: NumKind, b: NumKind) -> NumKind
     ensures { result ≡ kinds.common_kind a b }
 {
     winner(promoted(a), promoted(b))

@@ -11,6 +11,7 @@ mod unary;
 mod value;
 
 pub use binary::apply;
+pub use kinds::{common_kind, promoted};
 pub use laws::{
     numbers_are_kept, remainder_stops_with_quotient, results_are_in_range, values_are_kept,
 };
