@@ -3,7 +3,7 @@
 -- functions of these classes, then the free ones. `::` leads to globals and free functions alone. Where a stage has several
 -- things of one name, the one that is declared first is meant, and so the one farthest up in a chain of bases.
 use Rattle.std.specs.Borrow.{Bor}
-use Rattle.std.specs.Prelude.{ℕ, zero, suc, Bool, false, List, [], ◌∷◌, Option, Some, None, slice_get, option_map, is_some, if◌then◌else◌, nat_eq}
+use Rattle.std.specs.Prelude.{ℕ, zero, suc, Bool, false, List, [], ◌∷◌, Option, Some, None, slice_get, option_map, is_some, if◌then◌else◌, nat_eq, nat_lt}
 use Rattle.std.specs.List.{list_any}
 use Rattle.agxx_base.specs.declared.ids.ClassId.{ClassId}
 use Rattle.agxx_base.specs.declared.kind.NumKind.TheVariants.{I32, U32}
@@ -164,3 +164,14 @@ abbrev pub function : Declared → Option ClassId → Ref → Option (Option Cla
 function d class r =
     if r.global then free_function d r.name.item.0
     else function_by (own_function d class r.name.item.0) (free_function d r.name.item.0)
+
+-- ---- what stands before
+
+-- the first thing of a name stands before this place
+abbrev pub stands_before : Option ℕ → ℕ → Bool
+stands_before None index = false
+stands_before (Some first) index = nat_lt first index
+
+-- a class, function or global of this name stands before this place among the declarations
+abbrev pub is_declared_before : Declared → ℕ → ℕ → Bool
+is_declared_before d name index = stands_before (named d.first name) index

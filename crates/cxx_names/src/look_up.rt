@@ -203,4 +203,14 @@ impl Declared {
             Some(signature) => Some((None, signature)),
         }
     }
+
+    /// Whether a class, function or global of a name stands before a place among the declarations.
+    pub fn is_declared_before(&self, name: NameId, index: usize) -> bool
+        ensures { result ≡ spec.is_declared_before self.now name.0 index }
+    {
+        match self.first.find(name) {
+            None => false,
+            Some(first) => *first < index,
+        }
+    }
 }

@@ -13,10 +13,10 @@ use Rattle.cxx_names.specs.Declarations.{class_at}
 use Rattle.cxx_types.specs.declared.entry.Entry.{Entry}
 use Rattle.cxx_types.specs.declared.entry.Meaning.{Meaning}
 use Rattle.cxx_types.specs.declared.entry.Meaning.TheVariants.{Other}
-use Rattle.cxx_types.specs.declared.checker.Checker.{Checker}
+use Rattle.cxx_types.specs.State.{State}
 
 -- a rule is violated at a place, unless it holds
-abbrev pub required : Rule → Place → Bool → Checker → Checker
+abbrev pub required : Rule → Place → Bool → State → State
 required rule at true s = s
 required rule at false s = record s { found = s.found ++ (record { rule = rule; place = at }) ∷ [] }
 
@@ -31,13 +31,13 @@ shown_type d (Some (value.Pointer class)) = pointer_to (class_at d class)
 shown_type d _ = type_name.Void
 
 -- the next node is this
-abbrev pub noted : Option ValueType → Meaning → Checker → Checker
-noted t meaning s = record s { entries = s.entries ++ (record { type_name = shown_type s.declared.now t; meaning = meaning }) ∷ [] }
+abbrev pub noted : Option ValueType → Meaning → State → State
+noted t meaning s = record s { entries = s.entries ++ (record { type_name = shown_type s.declared t; meaning = meaning }) ∷ [] }
 
 -- the next node has a type that its parts are to tell
-abbrev pub opened : Checker → Checker
+abbrev pub opened : State → State
 opened s = noted None Other s
 
 -- the type of the node at this place among the nodes
-abbrev pub closed : ℕ → Option ValueType → Checker → Checker
-closed index t s = record s { entries = slice_set s.entries index (record { type_name = shown_type s.declared.now t; meaning = Other }) }
+abbrev pub closed : ℕ → Option ValueType → State → State
+closed index t s = record s { entries = slice_set s.entries index (record { type_name = shown_type s.declared t; meaning = Other }) }

@@ -28,7 +28,7 @@ use Rattle.cxx_names.specs.declared.types.Variable.TheVariants as variable
 use Rattle.cxx_names.specs.LookUp.{thing_of}
 use Rattle.cxx_types.specs.declared.context.Context.{Context}
 use Rattle.cxx_types.specs.declared.entry.Meaning.TheVariants as meaning
-use Rattle.cxx_types.specs.declared.checker.Checker.{Checker}
+use Rattle.cxx_types.specs.State.{State}
 use Rattle.cxx_types.specs.Called.{Callable}
 use Rattle.cxx_types.specs.Checking.{required, noted, opened, closed}
 use Rattle.cxx_types.specs.Conversion.{may_convert, may_be_number, takes, takes_one, binary_type, unary_type, casts, cast_type, truth}
@@ -36,11 +36,11 @@ use Rattle.cxx_types.specs.Selections.{meant, variable_node, read, selected, val
 use Rattle.cxx_types.specs.Calls.{called, created}
 
 abbrev pub Typed : Type 0
-Typed = Checker × Option ValueType
+Typed = State × Option ValueType
 
 -- ---- expressions without parts
 
-abbrev pub simple : Option ValueType → Checker → Typed
+abbrev pub simple : Option ValueType → State → Typed
 simple t s = (noted t meaning.Other s, t)
 
 abbrev pub own_type : Option ClassId → Option ValueType
@@ -48,11 +48,11 @@ own_type None = None
 own_type (Some class) = Some (value.Pointer class)
 
 -- `this` stands in functions of classes alone
-abbrev pub own : Context → Node → Checker → Typed
+abbrev pub own : Context → Node → State → Typed
 own c n s = (noted (own_type c.class) meaning.Other (required rule.N8 n.at (is_some c.class) s), own_type c.class)
 
 -- what may stand on the left of an assignment, as a value; a result of a join point counts as an int64_t
-unfoldable pub left : Context → Left → Checker → Typed
+unfoldable pub left : Context → Left → State → Typed
 left c (left_of.Name r) s = read c r s
 left c (left_of.Member n q) s = selected c n q s
 left c (left_of.Result n) s = simple (Some (value.Number num.I64)) s
@@ -64,8 +64,8 @@ operated index n o x = (closed index (unary_type o x.1) (required rule.N3 n.at (
 
 abbrev pub joined : ℕ → Placed BinOp → Option ValueType → Typed → Typed
 joined index o a y =
-    (closed index (binary_type y.0.declared.now o.item a y.1) (required rule.N3 o.at (takes y.0.declared.now o.item a y.1) y.0),
-     binary_type y.0.declared.now o.item a y.1)
+    (closed index (binary_type y.0.declared o.item a y.1) (required rule.N3 o.at (takes y.0.declared o.item a y.1) y.0),
+     binary_type y.0.declared o.item a y.1)
 
 abbrev pub grouped : ℕ → Typed → Typed
 grouped index x = (closed index x.1 x.0, x.1)
@@ -89,42 +89,42 @@ abbrev pub with_name : Ref → Option ClassId → Option (Ref × ClassId)
 with_name r None = None
 with_name r (Some class) = Some (r, class)
 
-abbrev pub addressed_left : Context → Left → Checker → Option (Ref × ClassId)
+abbrev pub addressed_left : Context → Left → State → Option (Ref × ClassId)
 addressed_left c (left_of.Name r) s = with_name r (object_in (meant c r s))
 addressed_left c _ s = None
 
-abbrev pub addressed : Context → ExprTree → Checker → Option (Ref × ClassId)
+abbrev pub addressed : Context → ExprTree → State → Option (Ref × ClassId)
 addressed c (e.left l) s = addressed_left c l s
 addressed c _ s = None
 
-abbrev pub address : Context → Ref × ClassId → Checker → Typed
+abbrev pub address : Context → Ref × ClassId → State → Typed
 address c p s =
     (variable_node c p.0 (meant c p.0 s) (noted (Some (value.Pointer p.1)) meaning.Other s), Some (value.Pointer p.1))
 
 -- anything else has no address
-abbrev pub no_address : Node → (Checker → Typed) → Checker → Typed
+abbrev pub no_address : Node → (State → Typed) → State → Typed
 no_address n operand s = ((operand (noted None meaning.Other (required rule.N7 n.at false s))).0, None)
 
-abbrev pub address_by : Context → Node → Option (Ref × ClassId) → (Checker → Typed) → Checker → Typed
+abbrev pub address_by : Context → Node → Option (Ref × ClassId) → (State → Typed) → State → Typed
 address_by c n None operand s = no_address n operand s
 address_by c n (Some p) operand s = address c p s
 
-abbrev pub param_type : Checker → Param → Option ValueType
-param_type s p = value_of (thing_of s.declared.now p.type_name.item)
+abbrev pub param_type : State → Param → Option ValueType
+param_type s p = value_of (thing_of s.declared p.type_name.item)
 
 -- whether an argument has a type that converts to a parameter's
-abbrev pub passes : Checker → Option ValueType → Option ValueType → Bool
+abbrev pub passes : State → Option ValueType → Option ValueType → Bool
 passes s None to = false
 passes s (Some from) None = false
-passes s (Some from) (Some to) = may_convert s.declared.now (Some from) (Some to)
+passes s (Some from) (Some to) = may_convert s.declared (Some from) (Some to)
 
 abbrev pub both : Bool → Bool → Bool
 both true other = other
 both false other = false
 
-abbrev pub passed : Place → Param → Typed → Checker × Bool
+abbrev pub passed : Place → Param → Typed → State × Bool
 passed at p x =
-    (required rule.N3 at (may_convert x.0.declared.now x.1 (param_type x.0 p)) x.0, passes x.0 x.1 (param_type x.0 p))
+    (required rule.N3 at (may_convert x.0.declared x.1 (param_type x.0 p)) x.0, passes x.0 x.1 (param_type x.0 p))
 
 -- the type of a call, for whether its arguments fit
 abbrev pub called_type : Callable → Bool → Option ValueType
@@ -138,7 +138,7 @@ count (e.more_exprs first rest) = suc (count rest)
 
 abbrev mutual
   -- an expression as a value
-  pub expr : Context → ExprTree → Checker → Typed
+  pub expr : Context → ExprTree → State → Typed
   expr c (e.lit n number) s = simple (Some (value.Number number.kind)) s
   expr c (e.flag n is_set) s = simple (Some truth) s
   expr c (e.null n) s = simple (Some value.Null) s
@@ -157,14 +157,14 @@ abbrev mutual
 
   -- arguments for parameters, and whether those before fit and all of these have a type that converts to that of their
   -- parameter
-  pub exprs : Context → List Param → Bool → ExprTrees → Checker → Checker × Bool
+  pub exprs : Context → List Param → Bool → ExprTrees → State → State × Bool
   exprs c params fit e.no_exprs s = (s, fit)
   exprs c [] fit (e.more_exprs first rest) s = exprs c [] false rest (expr c first s).0
   exprs c (p ∷ ps) fit (e.more_exprs first rest) s =
       let x = passed (expr_node first).at p (expr c first s) in exprs c ps (both fit x.1) rest x.0
 
   -- a call, as a value or as a statement
-  pub call : Context → Bool → CallTree → Checker → Typed
+  pub call : Context → Bool → CallTree → State → Typed
   call c as_value (e.calls n callee arguments) s =
       let f = called c n callee (count arguments) as_value s in
       let x = exprs c f.1.params true arguments f.0 in (x.0, called_type f.1 x.1)

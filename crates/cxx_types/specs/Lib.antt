@@ -1,3 +1,4 @@
+pub mod State
 pub mod Access
 pub mod Conversion
 pub mod Checking
@@ -5,3 +6,8 @@ pub mod Selections
 pub mod Called
 pub mod Calls
 pub mod Expressions
+pub mod Counts
+pub mod Locals
+pub mod Statements
+pub mod Classes
+pub mod Programs

@@ -38,7 +38,7 @@ pub(crate) struct Use {
     pub(crate) as_value: bool,
 }
 
-fn is_void(type_name: TypeName) -> bool
+pub(crate) fn is_void(type_name: TypeName) -> bool
     ensures { result ≡ spec.is_void type_name }
 {
     match type_name {
@@ -47,13 +47,13 @@ fn is_void(type_name: TypeName) -> bool
     }
 }
 
-fn result_type(declared: &Declared, type_name: TypeName) -> Option<ValueType>
+pub(crate) fn result_type(declared: &Declared, type_name: TypeName) -> Option<ValueType>
     ensures { result ≡ spec.result_type declared.now type_name }
 {
     value_of(declared.thing_of(type_name))
 }
 
-fn counts(count: usize, params: &[Param]) -> bool
+pub(crate) fn counts(count: usize, params: &[Param]) -> bool
     ensures { result ≡ spec.counts count params.now }
 {
     count == params.len()
@@ -83,7 +83,7 @@ fn access_of(
     }
 }
 
-fn ctor_of(class: Option<&ClassInfo>) -> Option<&Signature>
+pub(crate) fn ctor_of(class: Option<&ClassInfo>) -> Option<&Signature>
     ensures { option_map spec.lent_signature result ≡ spec.ctor_of (option_map spec.lent_class class.entry) }
 {
     match class {

@@ -5,10 +5,12 @@ ghost use Rattle.cxx_types.specs.Checking as spec;
 
 use crate::entries::EntryList;
 use crate::entry::{Entry, Meaning};
+use crate::limits::Counts;
 use agxx_base::{ListOf, Memory, Names, Place, Refusal, Rule};
 use cxx_names::{Declared, Table, Thing, ValueType};
 use cxx_tree::TypeName;
 use std::alloc::Global;
+use std::marker::Model;
 
 /// Goes through a program, and finds the rules that it violates and what is known of its nodes.
 #[derive(Drop)]
@@ -16,6 +18,8 @@ pub(crate) struct Checker<'a> {
     pub(crate) alloc: Global,
     pub(crate) names: &'a Names,
     pub(crate) declared: &'a Declared,
+    /// How many things there may be.
+    pub(crate) most: Counts,
     /// The violations so far.
     pub(crate) found: ListOf<Refusal>,
     /// What is known of the nodes so far.
@@ -26,6 +30,23 @@ pub(crate) struct Checker<'a> {
     pub(crate) locals: usize,
     /// How many `return`s the function has so far.
     pub(crate) returns: usize,
+}
+
+impl<'a> Model for Checker<'a> {
+    ghost use Rattle.cxx_types.specs.State.{State};
+
+    ghost Value = { State };
+
+    ghost view = { λ c. record {
+        names = c.names.now;
+        declared = c.declared.now;
+        most = c.most;
+        found = c.found;
+        entries = c.entries;
+        scope = c.scope;
+        locals = c.locals;
+        returns = c.returns
+    } };
 }
 
 impl<'a> Checker<'a> {
@@ -41,7 +62,7 @@ impl<'a> Checker<'a> {
 
     /// The type of a node, as a program would spell it.
     pub(crate) fn shown_type(&self, value_type: Option<ValueType>) -> TypeName
-        ensures { result ≡ spec.shown_type self.now.declared.now value_type }
+        ensures { result ≡ spec.shown_type self.now.declared value_type }
     {
         match value_type {
             Some(ValueType::Number(kind)) => TypeName::Num(kind),

@@ -2,14 +2,20 @@
 #![tactic(auto)]
 
 mod access;
+mod base_arguments;
 mod calls;
 mod checker;
+mod classes;
 mod context;
 mod conversion;
 mod entries;
 mod entry;
 mod expressions;
+mod limits;
+mod locals;
+mod programs;
 mod selections;
+mod statements;
 
 pub use context::Context;
 pub use entry::{Entry, Meaning};

@@ -1,0 +1,52 @@
+//! How many things a program may have.
+
+ghost use Rattle.std.specs.Prelude.{◌≡◌};
+ghost use Rattle.cxx_types.specs.Counts as spec;
+
+use agxx_base::Mode;
+
+/// How many things there may be of each kind.
+#[derive(Clone, Copy, Debug, PartialEq, Eq)]
+pub(crate) struct Counts {
+    pub(crate) names: usize,
+    pub(crate) classes: usize,
+    pub(crate) globals: usize,
+    /// Free functions.
+    pub(crate) functions: usize,
+    /// Members of one class.
+    pub(crate) members: usize,
+    /// Functions of one class.
+    pub(crate) methods: usize,
+    /// Locals and threads of one function.
+    pub(crate) locals: usize,
+    /// `return`s of one function.
+    pub(crate) returns: usize,
+}
+
+/// How many things a program may have that is read so.
+pub(crate) fn most(mode: Mode) -> Counts
+    ensures { result ≡ spec.most mode }
+{
+    match mode {
+        Mode::Source => Counts {
+            names: 100_000,
+            classes: 256,
+            globals: 1000,
+            functions: 1000,
+            members: 240,
+            methods: 200,
+            locals: 500,
+            returns: 200,
+        },
+        Mode::Woven => Counts {
+            names: 200_000,
+            classes: 320,
+            globals: 1100,
+            functions: 6000,
+            members: 1000,
+            methods: 5000,
+            locals: 1000,
+            returns: 400,
+        },
+    }
+}
