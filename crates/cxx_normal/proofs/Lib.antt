@@ -13,3 +13,4 @@ pub mod Bodies
 pub mod Listings
 pub mod Declared
 pub mod Counted
+pub mod Places

@@ -3,6 +3,7 @@ pub mod Directives
 pub mod Labels
 pub mod Completion
 pub mod Initialisers
+pub mod Places
 pub mod Entry
 pub mod Declarations
 pub mod Normal

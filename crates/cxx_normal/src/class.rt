@@ -9,9 +9,9 @@ ghost use Rattle.cxx_normal.specs.Normal.{rebuilt_class};
 ghost use Rattle.cxx_normal.specs.Numbers.{number_each, number_function, number_dtor, number_item, number_class};
 
 use crate::listing::{Listing, first_access};
-use crate::names::members_of;
+use crate::members::Members;
 use crate::numbering::Numbering;
-use agxx_base::{Memory, NameId};
+use agxx_base::Memory;
 use cxx_tree::{Class, Dtor, Function, Item, Name};
 use sqlite_items::Items;
 
@@ -44,7 +44,7 @@ impl Numbering {
     fn put(
         &mut self,
         base: Option<Name>,
-        members: &[NameId],
+        members: &Members,
         item: &Item,
         listing: &mut Listing,
     ) -> Result<(), Memory>
@@ -65,7 +65,7 @@ impl Numbering {
     fn put_each(
         &mut self,
         base: Option<Name>,
-        members: &[NameId],
+        members: &Members,
         items: &[Item],
         listing: &mut Listing,
     ) -> Result<(), Memory>
@@ -81,9 +81,9 @@ impl Numbering {
         ensures { Gives (map item_tree) (number_each number_item (rebuilt_class (class_tree class.now)).items self.old.next) result self.new.next }
     {
         let items = class.items.as_slice();
-        let members = members_of(self.alloc, items)?;
+        let members = Members::of(self.alloc, items)?;
         let mut listing = Listing::new(self.alloc, class.at, first_access(class.word));
-        self.put_each(class.base, members.as_slice(), items, &mut listing)?;
+        self.put_each(class.base, &members, items, &mut listing)?;
         listing.complete(self.alloc, class.name, items)?;
         Ok(listing.items)
     }

@@ -1,6 +1,6 @@
 //! Constructors, and the assignments that member initialisers become.
 
-ghost use Rattle.std.specs.Prelude.{◌≡◌, map};
+ghost use Rattle.std.specs.Prelude.{◌≡◌, true, map};
 ghost use Rattle.std.specs.List.{filter, flat_map};
 ghost use Rattle.cxx_tree.specs.ExprTree.{expr_tree};
 ghost use Rattle.cxx_tree.specs.StmtTree.{stmt_tree, stmts_tree, block_tree};
@@ -8,11 +8,14 @@ ghost use Rattle.cxx_tree.specs.ProgramTree.{init_tree, ctor_tree};
 ghost use Rattle.cxx_normal.specs.Gives.{Gives, Adds};
 ghost use Rattle.cxx_normal.specs.Initialisers as spec;
 ghost use Rattle.cxx_normal.specs.Initialisers.{assignments_of, ctor_assigning, assigning_ctor, before_numbered, block_after_numbered};
+ghost use Rattle.cxx_normal.specs.Places.{assignment_at};
 ghost use Rattle.cxx_normal.specs.Numbers.{number_each, number_stmt, number_stmts, number_block, number_init, number_ctor};
 
-use crate::names::{are_meant, names, names_base};
+use crate::members::Members;
+use crate::names::{are_meant, names_base};
 use crate::numbering::Numbering;
-use agxx_base::{Memory, NameId, NodeId};
+use crate::order::order;
+use agxx_base::{Memory, NodeId};
 use cxx_tree::{
     Assign, Base, Block, Ctor, Expr, Init, Left, Name, Node, Placed, Selector, Simple, Stmt,
 };
@@ -104,35 +107,30 @@ impl Numbering {
         Ok(())
     }
 
-    fn assignment_if(
+    /// The assignment of the initialiser at a place, behind others.
+    fn assignment_at(
         &mut self,
-        base: Option<Name>,
-        id: NameId,
-        init: &Init,
+        inits: &[Init],
+        place: usize,
         stmts: &mut Items<Stmt>,
     ) -> Result<(), Memory>
-        ensures { Adds stmt_tree (number_each number_stmt (spec.assignment_if base id (init_tree init.now)) self.old.next) result stmts.old stmts.new self.new.next }
+        ensures { Adds stmt_tree (number_each number_stmt (assignment_at (map init_tree inits.now) place) self.old.next) result stmts.old stmts.new self.new.next }
     {
-        if names(id, init.name) && !names_base(base, init) {
-            return self.assignments_of(init, stmts);
+        match inits.get(place) {
+            Some(init) => self.assignments_of(init, stmts),
+            None => Ok(()),
         }
-        Ok(())
     }
 
-    /// The assignment for a member, behind others.
-    fn assignments_for(
-        &mut self,
-        base: Option<Name>,
-        inits: &[Init],
-        id: NameId,
-        stmts: &mut Items<Stmt>,
-    ) -> Result<(), Memory>
-        ensures { Adds stmt_tree (number_each number_stmt (spec.assignments_for base (map init_tree inits.now) id) self.old.next) result stmts.old stmts.new self.new.next }
+    /// The assignments of the initialisers at these places.
+    fn assignments_at(&mut self, inits: &[Init], places: &[usize]) -> Result<Items<Stmt>, Memory>
+        ensures { Gives (map stmt_tree) (number_each number_stmt (flat_map (assignment_at (map init_tree inits.now)) places.now) self.old.next) result self.new.next }
     {
-        for init in inits {
-            self.assignment_if(base, id, init, stmts)?;
+        let mut stmts = Items::new(self.alloc);
+        for place in places {
+            self.assignment_at(inits, *place, &mut stmts)?;
         }
-        Ok(())
+        Ok(stmts)
     }
 
     /// The assignments for all members.
@@ -140,15 +138,13 @@ impl Numbering {
         &mut self,
         base: Option<Name>,
         inits: &[Init],
-        members: &[NameId],
+        members: &Members,
     ) -> Result<Items<Stmt>, Memory>
+        requires { spec.are_meant base members.now (map init_tree inits.now) ≡ true }
         ensures { Gives (map stmt_tree) (number_each number_stmt (flat_map (spec.assignments_for base (map init_tree inits.now)) members.now) self.old.next) result self.new.next }
     {
-        let mut stmts = Items::new(self.alloc);
-        for id in members {
-            self.assignments_for(base, inits, *id, &mut stmts)?;
-        }
-        Ok(stmts)
+        let order = order(self.alloc, base, members, inits)?;
+        self.assignments_at(inits, order.as_slice())
     }
 
     /// Statements behind those that are there already.
@@ -186,9 +182,10 @@ impl Numbering {
     fn ctor_assigning(
         &mut self,
         base: Option<Name>,
-        members: &[NameId],
+        members: &Members,
         ctor: &Ctor,
     ) -> Result<Ctor, Memory>
+        requires { spec.are_meant base members.now (ctor_tree ctor.now).inits ≡ true }
         ensures { Gives ctor_tree (number_ctor (ctor_assigning base members.now (ctor_tree ctor.now)) self.old.next) result self.new.next }
     {
         let params = self.params(ctor.params.as_slice())?;
@@ -207,12 +204,12 @@ impl Numbering {
     pub(crate) fn ctor(
         &mut self,
         base: Option<Name>,
-        members: &[NameId],
+        members: &Members,
         ctor: &Ctor,
     ) -> Result<Ctor, Memory>
         ensures { Gives ctor_tree (number_ctor (assigning_ctor base members.now (ctor_tree ctor.now)) self.old.next) result self.new.next }
     {
-        if are_meant(base, members, ctor.inits.as_slice()) {
+        if are_meant(self.alloc, base, members, ctor.inits.as_slice())? {
             return self.ctor_assigning(base, members, ctor);
         }
         self.plain_ctor(ctor)

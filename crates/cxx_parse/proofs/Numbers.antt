@@ -12,6 +12,7 @@ use Rattle.cxx_lex.specs.declared.tok.TokKind.TheVariants as kind
 use Rattle.cxx_lex.specs.declared.tok.Tok.{Tok}
 use Rattle.cxx_lex.specs.TokList.{tokens_of}
 use Rattle.cxx_lex.specs.Tokens.{Token, token_of}
+use Rattle.cxx_stmt.specs.declared.dialect.Dialect.{Dialect}
 use Rattle.cxx_stmt.specs.Dialect.{IsApart}
 use Rattle.cxx_tree.specs.Words as w
 use Rattle.cxx_tree.specs.Words.{Word}
@@ -113,6 +114,11 @@ dialect-later mode names later l =
     let same : (a text : _) → IsLonger (interned a text) n6 → number_of later text ≡ number_of n6 text =
     λ a text h. number-later a later text (longer_through (interned a text) n6 later h l) ∙ sym (number-later a n6 text h) in
     rw (same names (codes "std") l1, same n1 (codes "mutex") l2, same n2 (codes "thread") l3, same n3 (codes "cout") l4, same n4 (codes "endl") l5, same n5 (codes "abort") (longer_self n6)) refl
+
+-- the numbers that names with a meaning get first stay theirs
+pub dialect-then : (mode : Mode) (names : List (List ℕ)) (ts : List Token) (special new : List (List ℕ)) (d : Dialect) → d ≡ dialect_in mode special → special ≡ with_special names → new ≡ names_of names ts → d ≡ dialect_in mode new
+dialect-then mode names ts special new d e s n =
+    e ∙ ap (dialect_in mode) s ∙ sym (ap (dialect_in mode) n ∙ dialect-later mode names (names_of names ts) (longer-names (with_special names) ts))
 
 pub dialect_is : (mode : Mode) (names : List (List ℕ)) (std mutex thread cout endl abort : NameId)
     → std.0 ≡ number_of names (codes "std") → mutex.0 ≡ number_of (interned names (codes "std")) (codes "mutex")

@@ -28,7 +28,7 @@ use Rattle.cxx_stmt.specs.declared.dialect.Dialect.{Dialect}
 use Rattle.cxx_stmt.specs.Dialect.{grammar, IsApart}
 use Rattle.cxx_stmt.proofs.FullParts.{read-front}
 use Rattle.cxx_parse.specs.Programs.{program}
-use Rattle.cxx_parse.specs.Parsed.{spelled, Fits, IsNone, IsViable, place_of, StopsAt, IsPlaced, IsUngrammatical, unexpected, too_deep, file_start, IsProgramOf}
+use Rattle.cxx_parse.specs.Parsed.{spelled, Fits, IsNone, IsViable, place_of, StopsAt, IsPlaced, IsUngrammatical, unexpected, too_deep, file_start, IsProgramOf, IsDescent}
 use Rattle.cxx_parse.proofs.FullPrograms.{read-program}
 use Rattle.cxx_parse.proofs.GoodPrograms.{programs, good_program, program-ends, program-at}
 
@@ -192,6 +192,11 @@ module _ (d : Dialect) (apart : IsApart d) (good : AreGood d) (depth : ℕ) (nes
       let f = fits-and-spelled d apart good most_operators depth at ts q rest h (ends q rest h) in
       record { fits = subst (λ T. T) (as_limits q) f.0; spelling = f.1; at = places q rest h ∙ a }
 
+most-operators : (g : Grammar) → (limits_of g).operators ≡ most_operators
+most-operators written = refl
+most-operators woven = refl
+most-operators aspects = refl
+
 -- each answer of the descent is right
 are-good : (d : Dialect) → AreGood d
 are-good d most more depth deeper le le' at = good_program d most more depth deeper le le' at
@@ -199,6 +204,12 @@ are-good d most more depth deeper le le' at = good_program d most more depth dee
 module _ (d : Dialect) (apart : IsApart d) (depth : ℕ) (nesting : depth ≡ (limits_of (grammar d)).nesting) (at : Place) (ts : Tokens) where
   pub read-done : (q : ProgramTree) (rest : Tokens) (end : Place) → at ≡ file_start end → program most_operators d depth at ts ≡ done q rest → IsProgramOf d ts end q
   read-done = is-program d apart (are-good d) depth nesting at ts (λ q rest e. program-ends most_operators depth d at ts rest q e) (λ q rest e. program-at most_operators depth d at ts rest q e)
+
+  pub read-all : (q : ProgramTree) (rest : Tokens) (end : Place) → at ≡ file_start end → program most_operators d depth at ts ≡ done q rest → IsDescent d ts end q
+  read-all q rest end a h =
+      let ends : rest ≡ [] = program-ends most_operators depth d at ts rest q h in
+      ap (λ m. program m d (limits_of (grammar d)).nesting (file_start end) ts) (most-operators (grammar d)) ∙ ap (λ n. program most_operators d n (file_start end) ts) (sym nesting) ∙ ap (λ p. program most_operators d depth p ts) (sym a)
+      ∙ h ∙ ap (done q) ends
 
   pub read-syntax : (rest : Tokens) (end : Place) → program most_operators d depth at ts ≡ failed Syntax rest
       → IsUngrammatical d ts end (record { rule = G1; place = place_of (drop (length ts - length rest) ts) end })
@@ -213,10 +224,10 @@ module _ (d : Dialect) (apart : IsApart d) (depth : ℕ) (nesting : depth ≡ (l
 
 -- ---- the same words, by their tokens
 
-pub read-as-parsed : (d d' : Dialect) (ts ts' : Tokens) (end end' : Place) (r : Result Program Fault) → d ≡ d' → ts ≡ ts' → end ≡ end'
-    → IfOk r (λ p. IsProgramOf d ts end (program_tree p)) → IfOk r (λ p. IsProgramOf d' ts' end' (program_tree p))
-read-as-parsed d d' ts ts' end end' r i j k h =
-    subst (λ x. IfOk r (λ p. IsProgramOf x ts' end' (program_tree p))) i (subst (λ x. IfOk r (λ p. IsProgramOf d x end' (program_tree p))) j (subst (λ x. IfOk r (λ p. IsProgramOf d ts x (program_tree p))) k h))
+pub read-as-parsed : (Holds : Dialect → Tokens → Place → ProgramTree → Type 0) (d d' : Dialect) (ts ts' : Tokens) (end end' : Place) (r : Result Program Fault) → d ≡ d' → ts ≡ ts' → end ≡ end'
+    → IfOk r (λ p. Holds d ts end (program_tree p)) → IfOk r (λ p. Holds d' ts' end' (program_tree p))
+read-as-parsed Holds d d' ts ts' end end' r i j k h =
+    subst (λ x. IfOk r (λ p. Holds x ts' end' (program_tree p))) i (subst (λ x. IfOk r (λ p. Holds d x end' (program_tree p))) j (subst (λ x. IfOk r (λ p. Holds d ts x (program_tree p))) k h))
 
 pub refused-as-parsed : (d d' : Dialect) (ts ts' : Tokens) (end end' : Place) (r : Result Program Fault) → d ≡ d' → ts ≡ ts' → end ≡ end'
     → IfErr r (λ f. IfRefused f (IsUngrammatical d ts end)) → IfErr r (λ f. IfRefused f (IsUngrammatical d' ts' end'))

@@ -13,9 +13,11 @@ use Rattle.cxx_tree.specs.Limits.{grammar_of, limits_of}
 use Rattle.cxx_tree.specs.Fits.{FitsProgram, IsProgram}
 use Rattle.cxx_tree.specs.Blank.{blank_program}
 use Rattle.cxx_expr.specs.Tokens.{Tokens, words_of}
+use Rattle.cxx_expr.specs.Outcome.{Outcome, done}
 use Rattle.cxx_stmt.specs.declared.dialect.Dialect.{Dialect}
 use Rattle.cxx_stmt.specs.Dialect.{special_of, grammar}
 use Rattle.cxx_parse.specs.Numbering.{names_of, dialect_in, words_in}
+use Rattle.cxx_parse.specs.Programs.{program}
 
 -- ---- programs of a dialect
 
@@ -73,11 +75,23 @@ pub record IsProgramOf (d : Dialect) (ts : Tokens) (end : Place) (q : ProgramTre
   pub spelling : spelled d q ≡ words_of ts
   pub at : q.at ≡ file_start end
 
+-- what the descent answers for the words of a file that ends here, within the limits
+abbrev pub descent_of : Dialect → Tokens → Place → Outcome Tokens ProgramTree
+descent_of d ts end = program (limits_of (grammar d)).operators d (limits_of (grammar d)).nesting (file_start end) ts
+
+-- The descent reads this very tree of all the words, with each place in it and each number of a node.
+abbrev pub IsDescent : Dialect → Tokens → Place → ProgramTree → Type 0
+IsDescent d ts end q = descent_of d ts end ≡ done q []
+
 -- ---- programs of a text, whose names have numbers
 
 -- the tokens are this program
 abbrev pub IsParsed : Mode → List (List ℕ) → List Token → Place → ProgramTree → Type 0
 IsParsed mode names ts end q = IsProgramOf (dialect_in mode names) (words_in names ts) end q
+
+-- the tree that is read of the tokens, with each place in it and each number of a node, which spelling leaves open
+abbrev pub IsReadAs : Mode → List (List ℕ) → List Token → Place → ProgramTree → Type 0
+IsReadAs mode names ts end q = IsDescent (dialect_in mode names) (words_in names ts) end q
 
 -- the refusal of tokens that are no program
 abbrev pub IsRefused : Mode → List (List ℕ) → List Token → Place → Refusal → Type 0
@@ -89,3 +103,7 @@ abbrev pub SpellingIsUnique : Type 0
 SpellingIsUnique =
     (mode : Mode) (names : List (List ℕ)) (ts : List Token) (a b : ProgramTree) → IsProgram (grammar_of mode) a → IsProgram (grammar_of mode) b
     → spelled (dialect_in mode (names_of names ts)) a ≡ spelled (dialect_in mode (names_of names ts)) b → blank_program a ≡ blank_program b
+
+-- Tokens are read as one tree at most.
+abbrev pub ReadingIsUnique : Type 0
+ReadingIsUnique = (mode : Mode) (names : List (List ℕ)) (ts : List Token) (end : Place) (a b : ProgramTree) → IsReadAs mode names ts end a → IsReadAs mode names ts end b → a ≡ b

@@ -2,7 +2,7 @@
 //! of the definitions.
 //!
 //! Each rule of the grammar is a function of the code, and the same function is defined over lists of words in `specs/`.
-//! What the answers mean is told without it: by the spelling of trees.
+//! What the answers mean is told without it, by the spelling of trees; but by it the places in a tree are told too.
 #![tactic(auto)]
 
 mod classes;
@@ -12,7 +12,7 @@ mod programs;
 mod read;
 mod words;
 
-pub use read::{parse_program, spelling_is_unique};
+pub use read::{parse_program, reading_is_unique, spelling_is_unique};
 
 #[cfg(test)]
 mod tests;

@@ -1,10 +1,11 @@
-use Rattle.std.proofs.Common.{◌≡◌, map, length}
+use Rattle.std.proofs.Common.{◌≡◌, ◌&&◌, drop, map}
+use Rattle.std.specs.BTreeSet.{contains}
+use Rattle.std.specs.Ordering.{nat_cmp}
 use Rattle.cxx_tree.specs.ProgramTree.{init_tree}
 use Rattle.cxx_normal.specs.Initialisers.{are_meant}
+use Rattle.cxx_normal.proofs.Places.{all_new}
 use Rattle.cxx_normal.proofs.names.are_meant.Given as goal
 
-abbrev pub invariant-loop-rest : goal.invariant-loop-rest
-invariant-loop-rest l = are_meant l.base l.members (map init_tree l.rest) ≡ are_meant l.base l.members (map init_tree l.fn.inits)
-
-abbrev pub decreases-loop-rest : goal.decreases-loop-rest
-decreases-loop-rest l = length l.rest
+abbrev pub invariant-loop-init : goal.invariant-loop-init
+invariant-loop-init l =
+    are_meant l.base l.members (map init_tree l.inits) ≡ all_new (contains nat_cmp l.named) (map init_tree (drop l.init-index l.inits)) && are_meant l.base l.members (map init_tree (drop l.init-index l.inits))

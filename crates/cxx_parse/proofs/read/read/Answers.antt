@@ -10,13 +10,18 @@ use Rattle.cxx_expr.specs.Outcome.{done, failed}
 use Rattle.cxx_expr.specs.Tokens.{tokens_of, token_of}
 use Rattle.cxx_parse.specs.Parsed.{place_of, IsUngrammatical}
 use Rattle.cxx_parse.specs.Programs.{program}
-use Rattle.cxx_parse.proofs.Whole.{read-done, read-syntax, read-deep}
+use Rattle.cxx_parse.proofs.Whole.{read-done, read-all, read-syntax, read-deep}
 use Rattle.cxx_parse.proofs.read.read.Goals as goal
+
+pub returns-in-Ok-clause-parsed : goal.returns-in-Ok-clause-parsed
+returns-in-Ok-clause-parsed c =
+    let h : program most_operators c.args.dialect.now c.most_nesting.result c.file_start.result (tokens_of c.args.words.now) ≡ done (program_tree c.in-Ok.program) c.program.new.words = search rules in
+    read-done c.args.dialect.now c.requires c.most_nesting.result c.most_nesting.ensures c.file_start.result (tokens_of c.args.words.now) (program_tree c.in-Ok.program) c.program.new.words c.args.end c.file_start.ensures h
 
 pub returns-in-Ok-clause-read : goal.returns-in-Ok-clause-read
 returns-in-Ok-clause-read c =
     let h : program most_operators c.args.dialect.now c.most_nesting.result c.file_start.result (tokens_of c.args.words.now) ≡ done (program_tree c.in-Ok.program) c.program.new.words = search rules in
-    read-done c.args.dialect.now c.requires c.most_nesting.result c.most_nesting.ensures c.file_start.result (tokens_of c.args.words.now) (program_tree c.in-Ok.program) c.program.new.words c.args.end c.file_start.ensures h
+    read-all c.args.dialect.now c.requires c.most_nesting.result c.most_nesting.ensures c.file_start.result (tokens_of c.args.words.now) (program_tree c.in-Ok.program) c.program.new.words c.args.end c.file_start.ensures h
 
 pub returns-in-Err-Syntax-clause-refused : goal.returns-in-Err-Syntax-clause-refused
 returns-in-Err-Syntax-clause-refused c =
