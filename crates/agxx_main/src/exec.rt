@@ -5,7 +5,8 @@ ghost use Rattle.cxx_lex.specs.TokList.{tokens_of};
 ghost use Rattle.cxx_lex.specs.Tokens.{HasTokens};
 ghost use Rattle.agxx_base.specs.declared.kind.Mode.TheVariants.{Woven};
 ghost use Rattle.agxx_main.specs.Answers as answers;
-ghost use Rattle.agxx_main.specs.Answers.{HasProgram, IsRunOf};
+ghost use Rattle.cxx_tree.specs.ProgramTree.{program_tree};
+ghost use Rattle.agxx_main.specs.Answers.{names_in, IsProgramIn, HasProgram, IsRunOf};
 ghost use Rattle.agxx_main.specs.Outcome.{IsExecDue};
 
 use crate::answer::Answer;
@@ -13,7 +14,10 @@ use agxx_base::{
     Fault, Files, Memory, Mode, Names, Place, ReadError, Refusal, Rule, Text, read_whole,
 };
 use cxx_lex::{Toks, lex_all};
+use cxx_normal::normal;
 use cxx_parse::parse_program;
+use cxx_tree::Program;
+use cxx_types::check;
 use first_form::{output_of, statements_of};
 use std::alloc::Global;
 
@@ -52,6 +56,29 @@ fn run(alloc: Global, file: &Text, text: &Text, toks: &Toks) -> Result<Answer, M
     }
 }
 
+/// The answer for a program.
+fn check_program(
+    alloc: Global,
+    file: &Text,
+    text: &Text,
+    toks: &Toks,
+    names: &mut Names,
+    program: &Program,
+) -> Result<Answer, Memory>
+    requires small { length text.now ≤ 16777216 }
+    requires tokens { HasTokens Woven 0 text.now (tokens_of toks.now.items) toks.now.end }
+    requires program { IsProgramIn (tokens_of toks.now.items) toks.now.end (program_tree program.now) }
+    requires names { names.old ≡ names_in (tokens_of toks.now.items) }
+    ensures { IfOk result (λ answer. IsRunOf file.now text.now answer) }
+{
+    let normal = normal(alloc, program, names)?;
+    match check(alloc, names, normal, Mode::Woven) {
+        Ok(_) => run(alloc, file, text, toks),
+        Err(Fault::Refused(refusal)) => Answer::refused(alloc, file, refusal),
+        Err(Fault::Memory) => Err(Memory),
+    }
+}
+
 /// The answer for the tokens of a file.
 fn parse(alloc: Global, file: &Text, text: &Text, toks: &Toks) -> Result<Answer, Memory>
     requires small { length text.now ≤ 16777216 }
@@ -60,7 +87,7 @@ fn parse(alloc: Global, file: &Text, text: &Text, toks: &Toks) -> Result<Answer,
 {
     let mut names = Names::new(alloc);
     match parse_program(alloc, &mut names, toks, Mode::Woven) {
-        Ok(_) => run(alloc, file, text, toks),
+        Ok(program) => check_program(alloc, file, text, toks, &mut names, &program),
         Err(Fault::Refused(refusal)) => Answer::refused(alloc, file, refusal),
         Err(Fault::Memory) => Err(Memory),
     }

@@ -18,21 +18,24 @@ use Rattle.cxx_stmt.specs.declared.dialect.Dialect.{Dialect}
 use Rattle.cxx_stmt.specs.Dialect.{grammar, IsApart}
 use Rattle.cxx_parse.specs.Numbering.{names_of, dialect_in, words_in}
 use Rattle.cxx_parse.specs.Programs.{program}
-use Rattle.cxx_parse.specs.Parsed.{IsViable, place_of, StopsAt, IsUngrammatical, unexpected, too_deep, file_start, IsProgramOf, IsParsed, IsRefused}
+use Rattle.cxx_parse.specs.Parsed.{IsViable, place_of, StopsAt, IsUngrammatical, unexpected, too_deep, file_start, IsProgramOf, IsDescent, IsParsed, IsReadAs, IsRefused}
 use Rattle.cxx_parse.proofs.Numbers.{apart-of}
-use Rattle.cxx_parse.proofs.Whole.{read-done, read-syntax, read-deep, never-memory}
+use Rattle.cxx_parse.proofs.Whole.{read-done, read-all, read-syntax, read-deep, never-memory}
 
 -- ---- one of both
 
 decided-by : (d : Dialect) → IsApart d → (ts : Tokens) (end : Place) (o : Outcome Tokens ProgramTree) → program most_operators d (limits_of (grammar d)).nesting (file_start end) ts ≡ o
-    → ((q : ProgramTree) × IsProgramOf d ts end q) ⊎ ((refusal : Refusal) × IsUngrammatical d ts end refusal)
-decided-by d apart ts end (done q rest) h = inl (q, read-done d apart (limits_of (grammar d)).nesting refl (file_start end) ts q rest end refl h)
+    → ((q : ProgramTree) × IsProgramOf d ts end q × IsDescent d ts end q) ⊎ ((refusal : Refusal) × IsUngrammatical d ts end refusal)
+decided-by d apart ts end (done q rest) h =
+    inl (q, read-done d apart (limits_of (grammar d)).nesting refl (file_start end) ts q rest end refl h,
+         read-all d apart (limits_of (grammar d)).nesting refl (file_start end) ts q rest end refl h)
 decided-by d apart ts end (failed Syntax rest) h = inr (_, read-syntax d apart (limits_of (grammar d)).nesting refl (file_start end) ts rest end h)
 decided-by d apart ts end (failed Deep rest) h = inr (_, read-deep d apart (limits_of (grammar d)).nesting refl (file_start end) ts rest end h)
 decided-by d apart ts end (failed Memory rest) h = absurd (never-memory d apart (limits_of (grammar d)).nesting refl (file_start end) ts rest h)
 
 pub parsed-or-refused : (mode : Mode) (names : List (List ℕ)) (ts : List Token) (end : Place)
-    → ((q : ProgramTree) × IsParsed mode (names_of names ts) ts end q) ⊎ ((refusal : Refusal) × IsRefused mode (names_of names ts) ts end refusal)
+    → ((q : ProgramTree) × IsParsed mode (names_of names ts) ts end q × IsReadAs mode (names_of names ts) ts end q)
+    ⊎ ((refusal : Refusal) × IsRefused mode (names_of names ts) ts end refusal)
 parsed-or-refused mode names ts end =
     decided-by (dialect_in mode (names_of names ts)) (apart-of mode names ts) (words_in (names_of names ts) ts) end _ refl
 
