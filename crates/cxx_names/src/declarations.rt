@@ -263,6 +263,13 @@ impl Declared {
         self.classes.as_slice().get(class.0 as usize)
     }
 
+    /// All classes, by their numbers.
+    pub fn classes(&self) -> &[ClassInfo]
+        ensures { result.now ≡ self.now.classes }
+    {
+        self.classes.as_slice()
+    }
+
     fn ancestors_below(&self, base: Option<ClassId>) -> Result<usize, Memory>
         ensures { IfOk result (λ n. n ≡ spec.ancestors_below self.now base) }
     {

@@ -1,8 +1,8 @@
 //! What names stand for.
 
-ghost use Rattle.std.specs.Prelude.{◌≡◌, [], ◌∷◌, ◌++◌, length, take, None, OnOk};
+ghost use Rattle.std.specs.Prelude.{◌≡◌, ◌<◌, [], ◌∷◌, ◌++◌, length, take, Some, None, slice_get, OnOk};
 ghost use Rattle.std.specs.Option.{option_copied};
-ghost use Rattle.cxx_names.specs.Tables.{named, with_name};
+ghost use Rattle.cxx_names.specs.Tables.{named, thing_at, with_name};
 
 use agxx_base::{Memory, NameId};
 use indexmap::IndexMap;
@@ -46,6 +46,25 @@ impl<V> Table<V> {
         ensures { option_copied result ≡ named self.now name.0 }
     {
         self.entries.get(&name.0)
+    }
+
+    /// The name at an index, counted from 0 in order of declaration, and what it stands for.
+    pub fn entry(&self, index: usize) -> (NameId, &V)
+        requires { index < length self.now }
+        ensures { slice_get self.now index ≡ Some (result.0.0, result.1.now) }
+    {
+        let (name, thing) = self.entries.get_index(index).unwrap();
+        (NameId(*name), thing)
+    }
+
+    /// What the name at an index stands for, counted from 0 in order of declaration.
+    pub fn at(&self, index: usize) -> Option<&V>
+        ensures { option_copied result ≡ thing_at self.now index }
+    {
+        match self.entries.get_index(index) {
+            None => None,
+            Some((_, thing)) => Some(thing),
+        }
     }
 }
 
