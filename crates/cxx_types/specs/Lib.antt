@@ -11,3 +11,4 @@ pub mod Locals
 pub mod Statements
 pub mod Classes
 pub mod Programs
+pub mod Violations

@@ -199,7 +199,8 @@ impl<'a> Checker<'a> {
         if let [first, rest @ ..] = arguments {
             let value = self.expr(context, first)?;
             let to = value_of(self.declared.thing_of(type_name));
-            self.require(Rule::N3, name.at, may_convert(self.declared, value, to))?;
+            let is_right = may_convert(self.declared, value, to);
+            self.require(Rule::N3, name.at, is_right)?;
             self.arguments(context, &[], rest)?;
         }
         Ok(())

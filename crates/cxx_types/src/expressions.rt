@@ -200,7 +200,8 @@ impl<'a> Checker<'a> {
     {
         let to = self.param_type(param);
         let is_right = self.passes(argument, to);
-        self.require(Rule::N3, at, may_convert(self.declared, argument, to))?;
+        let converts = may_convert(self.declared, argument, to);
+        self.require(Rule::N3, at, converts)?;
         Ok(is_right)
     }
 

@@ -14,6 +14,7 @@ mod expressions;
 mod limits;
 mod locals;
 mod programs;
+mod refusals;
 mod selections;
 mod statements;
 

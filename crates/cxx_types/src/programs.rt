@@ -153,7 +153,8 @@ impl<'a> Checker<'a> {
             Some(constant) => {
                 let to = value_of(self.declared.thing_of(type_name));
                 let from = Some(const_type(constant.item));
-                self.require(Rule::N3, constant.at, may_convert(self.declared, from, to))
+                let is_right = may_convert(self.declared, from, to);
+                self.require(Rule::N3, constant.at, is_right)
             }
         }
     }

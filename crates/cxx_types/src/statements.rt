@@ -39,11 +39,8 @@ impl<'a> Checker<'a> {
         };
         let value = self.expr(context, &initial.value)?;
         let to = value_of(self.declared.thing_of(type_name));
-        self.require(
-            Rule::N3,
-            initial.sign,
-            may_convert(self.declared, value, to),
-        )
+        let is_right = may_convert(self.declared, value, to);
+        self.require(Rule::N3, initial.sign, is_right)
     }
 
     #[tactic(auto, unfolding(crate::specs::Statements::local))]

@@ -1,0 +1,18 @@
+-- The least of a list of violations.
+use Rattle.std.proofs.Common.{◌≡◌, refl, ap, sym, ◌∙◌, Bool, true, false, List, [], ◌∷◌, Option, Some, None, if◌then◌else◌}
+use Rattle.std.specs.Option.{is_some}
+use Rattle.agxx_base.specs.declared.fault.Refusal.{Refusal}
+use Rattle.cxx_types.specs.Violations.{is_before, least, least_from}
+
+some-stays : (one : Refusal) (rs : List Refusal) → is_some (least_from (Some one) rs) ≡ true
+some-stays one [] = refl
+some-stays one (r ∷ rs) = by (is_before r one)
+    where
+      by : (b : Bool) → is_some (least_from (if b then Some r else Some one) rs) ≡ true
+      by true = some-stays r rs
+      by false = some-stays one rs
+
+-- where none is the least there is none
+pub none_is_least : (rs : List Refusal) → least rs ≡ None → rs ≡ []
+none_is_least [] none = refl
+none_is_least (r ∷ rs) none = let there : is_some (least_from (Some r) rs) ≡ true = some-stays r rs in cc
