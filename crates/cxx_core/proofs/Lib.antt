@@ -1,0 +1,5 @@
+pub mod RenumberedExprs
+pub mod RenumberedStmts
+pub mod RenumberedNames
+pub mod Renumbered
+pub mod Examples
