@@ -1,5 +1,5 @@
 -- The core form of a program keeps where its nodes are numbered anew.
-use Rattle.std.proofs.Common.{◌≡◌, ◌∙◌, ℕ, suc, refl, List, [], ◌∷◌, Option, Some, None, if◌then◌else◌}
+use Rattle.std.proofs.Common.{◌≡◌, ◌∙◌, ℕ, suc, refl, List, [], ◌∷◌, Option, if◌then◌else◌}
 use Rattle.agxx_base.specs.declared.ids.ClassId.{ClassId}
 use Rattle.agxx_base.specs.declared.ids.NameId.{NameId}
 use Rattle.cxx_tree.specs.declared.node.Placed.{Placed}
@@ -23,7 +23,7 @@ use Rattle.cxx_core.proofs.RenumberedNames.{declared-kept}
 function-kept : (w : Within) (f : p.FunctionTree) (m : ℕ) → k.core_function w (n.number_function f m).0 ≡ k.core_function w f
 function-kept w f m =
     λ i. record (k.core_function w f) {
-      body = block-kept (record w { result = type_named w.declared f.result.item }) (k.params_scope w.declared f.params) f.body m i
+      body = block-kept (record w { result = type_named w.declared f.result.item }) (k.params_scope w.declared f.params) f.body m i;
     }
 
 module _ (w : Within) (scope : Scope) (base : Option (Placed NameId)) where
@@ -36,7 +36,7 @@ others-kept : (base : Option (Placed NameId)) (xs : List p.InitTree) (m : ℕ) (
 others-kept base [] m body = refl
 others-kept base (x ∷ xs) m body =
     λ i. if k.is_named base x.name.item then others-kept base xs (n.number_init x m).1 body i
-      else cs.more_stmts (cs.wrong x.name.at) (others-kept base xs (n.number_init x m).1 body i)
+    else cs.more_stmts (cs.wrong x.name.at) (others-kept base xs (n.number_init x m).1 body i)
 
 ctor-kept : (w : Within) (base : Option (Placed NameId)) (f : p.CtorTree) (m : ℕ) → k.core_ctor w base (n.number_ctor f m).0 ≡ k.core_ctor w base f
 ctor-kept w base f m =
@@ -44,7 +44,7 @@ ctor-kept w base f m =
     let inits = n.number_each n.number_init f.inits m in
     (λ i. record (k.core_ctor w base f) {
       base_arguments = arguments-kept w scope base f.inits m i;
-      body = others-kept base f.inits m (core_block w scope (n.number_block f.body inits.1).0) i
+      body = others-kept base f.inits m (core_block w scope (n.number_block f.body inits.1).0) i;
     })
     ∙ (λ i. record (k.core_ctor w base f) { body = k.others_wrong base f.inits (block-kept w scope f.body inits.1 i) })
 
@@ -142,7 +142,7 @@ decls-kept names d xs m =
     λ i. record (k.core_decls names d xs) {
       functions = k.numbered_from 0 (functions-kept (k.outside names d) 0 xs m i);
       classes = classes-kept d 0 xs m i;
-      globals = globals-kept (k.outside names d) xs m i
+      globals = globals-kept (k.outside names d) xs m i;
     }
 
 program-kept : (names : List (List ℕ)) (q : p.ProgramTree) → k.core_program names (n.numbered_program q) ≡ k.core_program names q

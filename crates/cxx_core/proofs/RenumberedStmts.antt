@@ -119,7 +119,7 @@ module _ (w : Within) where
         let b = n.number_optional n.number_expr condition a.1 in
         let c = n.number_optional n.number_simple step b.1 in
         (λ i. cs.for (start-kept scope start m i) (k.core_condition w (in-for-kept scope start m i) b.0)
-          (k.core_step w (in-for-kept scope start m i) c.0) (k.core_block w (in-for-kept scope start m i) (n.number_block body c.1).0))
+        (k.core_step w (in-for-kept scope start m i) c.0) (k.core_block w (in-for-kept scope start m i) (n.number_block body c.1).0))
         ∙ (λ i. cs.for (k.core_start w scope start) (condition-kept inner condition a.1 i) (step-kept inner step b.1 i) (block-kept inner body c.1 i))
     stmt-kept scope (s.return at value) m = return-kept scope at value m
     stmt-kept scope (s.delete at pointer) m = λ i. k.delete_as at (expr-kept w scope pointer m i)

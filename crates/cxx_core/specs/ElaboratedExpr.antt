@@ -1,6 +1,6 @@
 -- The core form of expressions. `wrong` stands where a name stands for nothing that fits, and where an operand has no type
 -- that its operator takes.
-use Rattle.std.specs.Prelude.{ℕ, Bool, true, false, Option, Some, None, is_some, if◌then◌else◌}
+use Rattle.std.specs.Prelude.{Option, Some, None, is_some, if◌then◌else◌}
 use Rattle.agxx_base.specs.declared.ids.ClassId.{ClassId}
 use Rattle.agxx_base.specs.declared.place.Place.{Place}
 use Rattle.agxx_base.specs.declared.kind.NumKind.{NumKind}

@@ -1,13 +1,12 @@
 -- The core form of a program in normal form. Classes, and functions with constructors and destructors, stand in the order
 -- of the text, so each stands at its number.
-use Rattle.std.specs.Prelude.{ℕ, zero, suc, Bool, true, false, not, nat_eq, List, [], ◌∷◌, map, Option, Some, None, option_map, codes, neg_ℤ, if◌then◌else◌}
+use Rattle.std.specs.Prelude.{ℕ, suc, Bool, true, false, nat_eq, List, [], ◌∷◌, map, Option, Some, None, codes, neg_ℤ, if◌then◌else◌}
 use Rattle.agxx_base.specs.declared.ids.ClassId.{ClassId}
 use Rattle.agxx_base.specs.declared.ids.NameId.{NameId}
 use Rattle.agxx_base.specs.declared.place.Place.{Place}
 use Rattle.agxx_base.specs.declared.kind.NumKind.{NumKind}
 use Rattle.agxx_base.specs.Names.{number_of}
 use Rattle.cxx_tree.specs.declared.node.Placed.{Placed}
-use Rattle.cxx_tree.specs.declared.node.Number.{Number}
 use Rattle.cxx_tree.specs.declared.program.Const.{Const}
 use Rattle.cxx_tree.specs.declared.program.Const.TheVariants as const
 use Rattle.cxx_tree.specs.declared.program.Param.{Param}
@@ -21,8 +20,6 @@ use Rattle.cxx_names.specs.declared.declarations.ClassInfo.{ClassInfo}
 use Rattle.cxx_names.specs.declared.declarations.Signature.{Signature}
 use Rattle.cxx_names.specs.declared.types.ValueType.{ValueType}
 use Rattle.cxx_names.specs.declared.types.ValueType.TheVariants as type
-use Rattle.cxx_names.specs.declared.types.Thing.{Thing}
-use Rattle.cxx_names.specs.declared.types.Thing.TheVariants as thing
 use Rattle.cxx_names.specs.Tables.{with_name}
 use Rattle.cxx_names.specs.Declarations.{class_at, class_named, declared}
 use Rattle.cxx_names.specs.LookUp.{base_by, free_signature, thing_of}

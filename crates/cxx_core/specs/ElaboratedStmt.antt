@@ -1,6 +1,5 @@
 -- The core form of statements. A local is in scope from the statement after its declaration to the end of its block.
-use Rattle.std.specs.Prelude.{ℕ, Bool, true, false, List, [], map, Option, Some, None, is_some, if◌then◌else◌}
-use Rattle.agxx_base.specs.declared.ids.ClassId.{ClassId}
+use Rattle.std.specs.Prelude.{ℕ, Bool, true, false, map, Option, Some, None, is_some, if◌then◌else◌}
 use Rattle.agxx_base.specs.declared.place.Place.{Place}
 use Rattle.agxx_base.specs.declared.kind.NumKind.TheVariants as kind
 use Rattle.cxx_tree.specs.declared.expr.Left.{Left}
@@ -8,7 +7,7 @@ use Rattle.cxx_tree.specs.declared.expr.Left.TheVariants as left_of
 use Rattle.cxx_tree.specs.declared.operator.BinOp.{BinOp}
 use Rattle.cxx_tree.specs.declared.operator.BinOp.TheVariants as op
 use Rattle.cxx_tree.specs.declared.stmt.Bump.{Bump}
-use Rattle.cxx_tree.specs.Places.{left_node, call_node, expr_node}
+use Rattle.cxx_tree.specs.Places.{left_node, expr_node}
 use Rattle.cxx_tree.specs.ExprTree as e
 use Rattle.cxx_tree.specs.StmtTree as s
 use Rattle.cxx_arith.specs.Numbers.{flag}
@@ -169,7 +168,7 @@ module _ (w : Within) where
     core_stmt scope (s.while at condition body) = cs.while (core_expr w scope condition) (core_block scope body)
     core_stmt scope (s.for at start condition step body) =
         cs.for (core_start scope start) (core_condition (scope_in_for scope start) condition)
-          (core_step (scope_in_for scope start) step) (core_block (scope_in_for scope start) body)
+        (core_step (scope_in_for scope start) step) (core_block (scope_in_for scope start) body)
     core_stmt scope (s.return at value) = core_return scope at value
     core_stmt scope (s.delete at pointer) = delete_as at (core_expr w scope pointer)
     core_stmt scope (s.print q) = cs.print (map (core_printed scope) q.operands)

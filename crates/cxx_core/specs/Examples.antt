@@ -2,7 +2,6 @@
 use Rattle.std.specs.Prelude.{◌≡◌, ℕ, Bool, true, false, List, [], ◌∷◌, Option, Some, None, codes}
 use Rattle.agxx_base.specs.declared.ids.ClassId.{ClassId}
 use Rattle.agxx_base.specs.declared.ids.NameId.{NameId}
-use Rattle.agxx_base.specs.declared.kind.NumKind.{NumKind}
 use Rattle.agxx_base.specs.declared.kind.NumKind.TheVariants.{I32, U8}
 use Rattle.agxx_base.specs.declared.place.Place.{Place}
 use Rattle.cxx_tree.specs.declared.node.Node.{Node}
@@ -13,7 +12,6 @@ use Rattle.cxx_tree.specs.declared.expr.Base.{Base}
 use Rattle.cxx_tree.specs.declared.expr.Selector.{Selector}
 use Rattle.cxx_tree.specs.declared.expr.Left.{Left}
 use Rattle.cxx_tree.specs.declared.expr.Left.TheVariants as left_of
-use Rattle.cxx_tree.specs.declared.expr.Callee.{Callee}
 use Rattle.cxx_tree.specs.declared.expr.Callee.TheVariants as callee_of
 use Rattle.cxx_tree.specs.declared.operator.BinOp.{BinOp}
 use Rattle.cxx_tree.specs.declared.operator.BinOp.TheVariants.{Add}
@@ -25,7 +23,6 @@ use Rattle.cxx_tree.specs.declared.program.TypeName.TheVariants as type_name
 use Rattle.cxx_tree.specs.ExprTree as e
 use Rattle.cxx_tree.specs.StmtTree as s
 use Rattle.cxx_tree.specs.ProgramTree as p
-use Rattle.cxx_arith.specs.declared.value.Value.{Value}
 use Rattle.cxx_names.specs.declared.types.ValueType.{ValueType}
 use Rattle.cxx_names.specs.declared.types.ValueType.TheVariants as type
 use Rattle.cxx_core.specs.CoreExpr as c
@@ -101,18 +98,18 @@ value_of n = c.number (record { kind = I32; bits = n })
 -- }
 abbrev pub shadowing : p.ProgramTree
 shadowing = program_of (
-  p.global (p.variable (record { type_name = number_type 1; name = name 1 0; initial = None }))
-  ∷ p.free_function (record {
-    result = placed 2 type_name.Int;
-    name = name 2 1;
-    params = [];
-    body = in_braces 2 (
-      s.local (record { type_name = placed 3 (type_name.Num U8); name = name 3 0; initial = starting_with 3 (literal 3 7) })
-      ∷ assigning 4 (left_of.Name (ref true 4 0)) None (reading 4 0)
-      ∷ s.return (at 5) (Some (reading 5 0))
-      ∷ []);
-  })
-  ∷ [])
+    p.global (p.variable (record { type_name = number_type 1; name = name 1 0; initial = None }))
+    ∷ p.free_function (record {
+      result = placed 2 type_name.Int;
+      name = name 2 1;
+      params = [];
+      body = in_braces 2 (
+          s.local (record { type_name = placed 3 (type_name.Num U8); name = name 3 0; initial = starting_with 3 (literal 3 7) })
+          ∷ assigning 4 (left_of.Name (ref true 4 0)) None (reading 4 0)
+          ∷ s.return (at 5) (Some (reading 5 0))
+          ∷ []);
+    })
+    ∷ [])
 
 abbrev pub shadowing_core : CoreProgram
 shadowing_core = record {
@@ -126,10 +123,10 @@ shadowing_core = record {
     base = None;
     base_arguments = c.no_exprs;
     body = stmts_of (
-      cs.declare 0 (type.Number U8) (Some (cs.value (value_of 7)))
-      ∷ cs.assign (c.variable (c.global true 0 int32)) (c.read (c.variable (c.local 0 (type.Number U8))))
-      ∷ cs.return_value (at 5) int32 (cs.copy 0 (type.Number U8))
-      ∷ []);
+        cs.declare 0 (type.Number U8) (Some (cs.value (value_of 7)))
+        ∷ cs.assign (c.variable (c.global true 0 int32)) (c.read (c.variable (c.local 0 (type.Number U8))))
+        ∷ cs.return_value (at 5) int32 (cs.copy 0 (type.Number U8))
+        ∷ []);
   } ∷ [];
   classes = [];
   globals = core.number 0 (record { kind = I32; bits = 0 }) ∷ [];
@@ -161,38 +158,38 @@ class_c = record {
   name = name 1 0;
   base = None;
   items =
-    p.member (record { type_name = number_type 2; name = name 2 1 })
-    ∷ p.label (at 3) Public
-    ∷ p.function (record {
-      result = placed 4 type_name.Void;
-      name = name 4 2;
-      params = record { type_name = number_type 4; name = name 4 3 } ∷ [];
-      body = in_braces 4 (assigning 4 (left_of.Name (ref false 4 1)) None (e.paren (node 4) (reading 4 3)) ∷ []);
-    })
-    ∷ p.ctor (record { name = name 5 0; params = []; inits = []; body = in_braces 5 [] })
-    ∷ p.dtor (record { at = at 6; name = name 6 0; body = in_braces 6 [] })
-    ∷ [];
+      p.member (record { type_name = number_type 2; name = name 2 1 })
+      ∷ p.label (at 3) Public
+      ∷ p.function (record {
+        result = placed 4 type_name.Void;
+        name = name 4 2;
+        params = record { type_name = number_type 4; name = name 4 3 } ∷ [];
+        body = in_braces 4 (assigning 4 (left_of.Name (ref false 4 1)) None (e.paren (node 4) (reading 4 3)) ∷ []);
+      })
+      ∷ p.ctor (record { name = name 5 0; params = []; inits = []; body = in_braces 5 [] })
+      ∷ p.dtor (record { at = at 6; name = name 6 0; body = in_braces 6 [] })
+      ∷ [];
 }
 
 abbrev pub using_objects : p.ProgramTree
 using_objects = program_of (
-  p.class class_c
-  ∷ p.global (p.object (record { class = name 8 0; name = name 8 4; arguments = e.no_exprs }))
-  ∷ p.global (p.mutex (at 9) (name 9 5))
-  ∷ p.free_function (record {
-    result = placed 10 type_name.Int;
-    name = name 10 6;
-    params = [];
-    body = in_braces 10 (
-      s.local (record { type_name = pointer_to 11 0; name = name 11 7; initial = starting_with 11 (e.unary (node 11) AddressOf (reading 11 4)) })
-      ∷ calling (base_of.Arrow (ref false 12 7)) 12 2 (e.more_exprs (literal 12 3) e.no_exprs)
-      ∷ calling (base_of.Dot (ref false 13 5)) 13 8 e.no_exprs
-      ∷ assigning 14 (left_of.Member (node 14) (selector (base_of.Dot (ref false 14 4)) 14 1)) (Some Add)
-        (e.left (left_of.Member (node 14) (selector (base_of.Arrow (ref false 14 7)) 14 1)))
-      ∷ s.return (at 15) (Some (e.paren (node 15) (reading 15 7)))
-      ∷ []);
-  })
-  ∷ [])
+    p.class class_c
+    ∷ p.global (p.object (record { class = name 8 0; name = name 8 4; arguments = e.no_exprs }))
+    ∷ p.global (p.mutex (at 9) (name 9 5))
+    ∷ p.free_function (record {
+      result = placed 10 type_name.Int;
+      name = name 10 6;
+      params = [];
+      body = in_braces 10 (
+          s.local (record { type_name = pointer_to 11 0; name = name 11 7; initial = starting_with 11 (e.unary (node 11) AddressOf (reading 11 4)) })
+          ∷ calling (base_of.Arrow (ref false 12 7)) 12 2 (e.more_exprs (literal 12 3) e.no_exprs)
+          ∷ calling (base_of.Dot (ref false 13 5)) 13 8 e.no_exprs
+          ∷ assigning 14 (left_of.Member (node 14) (selector (base_of.Dot (ref false 14 4)) 14 1)) (Some Add)
+          (e.left (left_of.Member (node 14) (selector (base_of.Arrow (ref false 14 7)) 14 1)))
+          ∷ s.return (at 15) (Some (e.paren (node 15) (reading 15 7)))
+          ∷ []);
+    })
+    ∷ [])
 
 abbrev pub first_class : ClassId
 first_class = record { 0 = 0 }
@@ -250,13 +247,13 @@ main_function = record {
   base = None;
   base_arguments = c.no_exprs;
   body = stmts_of (
-    cs.declare 7 (type.Pointer first_class) (Some (cs.value (c.address 4 first_class)))
-    ∷ cs.run (c.call set_callee (c.more_exprs (value_of 3) c.no_exprs))
-    ∷ cs.lock (at 13) (cs.global_mutex 5)
-    ∷ cs.update (at 14) Add int32 int32 (c.member (at 14) (c.by_object 4 first_class) first_class 1 I32)
+      cs.declare 7 (type.Pointer first_class) (Some (cs.value (c.address 4 first_class)))
+      ∷ cs.run (c.call set_callee (c.more_exprs (value_of 3) c.no_exprs))
+      ∷ cs.lock (at 13) (cs.global_mutex 5)
+      ∷ cs.update (at 14) Add int32 int32 (c.member (at 14) (c.by_object 4 first_class) first_class 1 I32)
       (c.read (c.member (at 14) (c.by_pointer p_variable) first_class 1 I32))
-    ∷ cs.return_value (at 15) int32 (cs.value (c.read (c.variable p_variable)))
-    ∷ []);
+      ∷ cs.return_value (at 15) int32 (cs.value (c.read (c.variable p_variable)))
+      ∷ []);
 }
 
 abbrev pub using_objects_core : CoreProgram

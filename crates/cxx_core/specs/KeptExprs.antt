@@ -1,5 +1,5 @@
 -- How expressions are kept: a number, what stands in them, and their parts.
-use Rattle.std.specs.Prelude.{◌≡◌, ℕ, List, [], ◌∷◌, refl}
+use Rattle.std.specs.Prelude.{◌≡◌, ℕ, [], ◌∷◌, refl}
 use base.Stored.{Gv, gnil, gnum, gcons, num}
 use Rattle.agxx_base.specs.declared.ids.ClassId.{ClassId}
 use Rattle.agxx_base.specs.declared.kind.NumKind.{NumKind}
@@ -77,11 +77,11 @@ abbrev mutual
 abbrev pub expr_at : Gv → CoreExpr → CoreExpr → CoreExprs → ℕ → CoreExpr
 expr_at d a b es k =
     pick (c.wrong (kept_place.read d))
-      (c.number (kept_value.read d) ∷ c.null ∷ c.this (kept_class.read d) ∷ c.read (kept_left.read d) ∷ address_of (kept_address.read d)
-        ∷ unary_of (kept_one.read d) a ∷ binary_of (kept_two.read d) a b ∷ and_of (kept_types.read d) a b
-        ∷ or_of (kept_types.read d) a b ∷ cast_of (kept_cast.read d) a ∷ c.call (kept_callee.read d) es
-        ∷ new_of (kept_new.read d) es ∷ [])
-      k
+    (c.number (kept_value.read d) ∷ c.null ∷ c.this (kept_class.read d) ∷ c.read (kept_left.read d) ∷ address_of (kept_address.read d)
+    ∷ unary_of (kept_one.read d) a ∷ binary_of (kept_two.read d) a b ∷ and_of (kept_types.read d) a b
+    ∷ or_of (kept_types.read d) a b ∷ cast_of (kept_cast.read d) a ∷ c.call (kept_callee.read d) es
+    ∷ new_of (kept_new.read d) es ∷ [])
+    k
 
 abbrev mutual
   pub read_expr : Gv → CoreExpr

@@ -1,5 +1,5 @@
 -- How kinds, types, operators and what names stand for are kept.
-use Rattle.std.specs.Prelude.{◌≡◌, ℕ, zero, suc, Bool, List, [], ◌∷◌, Option, refl}
+use Rattle.std.specs.Prelude.{◌≡◌, ℕ, Bool, [], ◌∷◌, refl}
 use base.Stored.{Gv, gnil, gnum, gcons, num}
 use Rattle.agxx_base.specs.declared.ids.ClassId.{ClassId}
 use Rattle.agxx_base.specs.declared.kind.NumKind.{NumKind}
@@ -19,7 +19,7 @@ use Rattle.cxx_core.specs.Kept.{Kept, first_part, second_part, kept_ℕ, kept_bo
 abbrev pub kept_place : Kept Place
 kept_place =
     kept_by (kept× kept_ℕ (kept× kept_ℕ kept_ℕ)) (λ at. (at.file, (at.line, at.column)))
-      (λ t. record { file = t.0; line = t.1.0; column = t.1.1 }) (λ _. refl)
+    (λ t. record { file = t.0; line = t.1.0; column = t.1.1 }) (λ _. refl)
 
 abbrev pub kept_class : Kept ClassId
 kept_class = kept_by kept_ℕ (λ class. class.0) (λ n. record { 0 = n }) (λ _. refl)
@@ -40,7 +40,7 @@ kind_number kind.U64 = 8
 abbrev pub kind_at : ℕ → NumKind
 kind_at =
     pick kind.Bool
-      (kind.Bool ∷ kind.I8 ∷ kind.U8 ∷ kind.I16 ∷ kind.U16 ∷ kind.I32 ∷ kind.U32 ∷ kind.I64 ∷ kind.U64 ∷ [])
+    (kind.Bool ∷ kind.I8 ∷ kind.U8 ∷ kind.I16 ∷ kind.U16 ∷ kind.I32 ∷ kind.U32 ∷ kind.I64 ∷ kind.U64 ∷ [])
 
 pub kind-same : (k : NumKind) → kind_at (kind_number k) ≡ k
 kind-same kind.Bool = refl
@@ -79,9 +79,9 @@ op_number op.Remainder = 17
 abbrev pub op_at : ℕ → BinOp
 op_at =
     pick op.Or
-      (op.Or ∷ op.And ∷ op.BitOr ∷ op.BitXor ∷ op.BitAnd ∷ op.Equal ∷ op.NotEqual ∷ op.Less ∷ op.LessEqual
-        ∷ op.Greater ∷ op.GreaterEqual ∷ op.ShiftLeft ∷ op.ShiftRight ∷ op.Add ∷ op.Subtract ∷ op.Multiply
-        ∷ op.Divide ∷ op.Remainder ∷ [])
+    (op.Or ∷ op.And ∷ op.BitOr ∷ op.BitXor ∷ op.BitAnd ∷ op.Equal ∷ op.NotEqual ∷ op.Less ∷ op.LessEqual
+    ∷ op.Greater ∷ op.GreaterEqual ∷ op.ShiftLeft ∷ op.ShiftRight ∷ op.Add ∷ op.Subtract ∷ op.Multiply
+    ∷ op.Divide ∷ op.Remainder ∷ [])
 
 pub op-same : (o : BinOp) → op_at (op_number o) ≡ o
 op-same op.Or = refl
@@ -233,7 +233,7 @@ kept_left = record { write = write_left; read = read_left; same = left-same }
 abbrev pub kept_callee : Kept CoreCallee
 kept_callee =
     kept_by
-      (kept× (kept× kept_place kept_place) (kept× (kept× kept_ℕ kept_ℕ) (kept× (kept_option kept_class) (kept× (kept_option kept_object) (kept× kept_bool (kept_option kept_type))))))
-      (λ f. ((f.at, f.named), ((f.function, f.name), (f.class, (f.object, (f.is_global, f.result))))))
-      (λ t. record { at = t.0.0; named = t.0.1; function = t.1.0.0; name = t.1.0.1; class = t.1.1.0; object = t.1.1.1.0; is_global = t.1.1.1.1.0; result = t.1.1.1.1.1 })
-      (λ _. refl)
+    (kept× (kept× kept_place kept_place) (kept× (kept× kept_ℕ kept_ℕ) (kept× (kept_option kept_class) (kept× (kept_option kept_object) (kept× kept_bool (kept_option kept_type))))))
+    (λ f. ((f.at, f.named), ((f.function, f.name), (f.class, (f.object, (f.is_global, f.result))))))
+    (λ t. record { at = t.0.0; named = t.0.1; function = t.1.0.0; name = t.1.0.1; class = t.1.1.0; object = t.1.1.1.0; is_global = t.1.1.1.1.0; result = t.1.1.1.1.1 })
+    (λ _. refl)

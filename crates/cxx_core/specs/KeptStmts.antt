@@ -57,7 +57,7 @@ write_printed (cs.unprintable at) = gcons (gnum 3) (kept_place.write at)
 abbrev pub printed_at : Gv → ℕ → CorePrinted
 printed_at d k =
     pick (cs.unprintable (kept_place.read d))
-      (text_of (kept_text.read d) ∷ cs.endl (kept_place.read d) ∷ operand_of (kept_operand.read d) ∷ []) k
+    (text_of (kept_text.read d) ∷ cs.endl (kept_place.read d) ∷ operand_of (kept_operand.read d) ∷ []) k
 
 abbrev pub read_printed : Gv → CorePrinted
 read_printed g = printed_at (second_part g) (num (first_part g))
@@ -178,11 +178,11 @@ abbrev mutual
 abbrev pub stmt_at : Gv → CoreStmts → CoreStmts → CoreStmts → ℕ → CoreStmt
 stmt_at d x y z k =
     pick (cs.wrong (kept_place.read d))
-      (cs.block x ∷ declare_of (kept_declare.read d) ∷ assign_of (kept_assign.read d) ∷ update_of (kept_update.read d) ∷ cs.run (read_expr d)
-        ∷ join_of (kept_join.read d) ∷ lock_of (kept_lock.read d) ∷ unlock_of (kept_lock.read d) ∷ cs.branch (read_expr d) x y
-        ∷ cs.while (read_expr d) x ∷ cs.for x (read_expr d) y z ∷ cs.return (kept_place.read d) ∷ return_of (kept_return.read d)
-        ∷ delete_of (kept_delete.read d) ∷ cs.print ((kept_list kept_printed).read d) ∷ thread_of (kept_thread.read d) ∷ cs.abort ∷ [])
-      k
+    (cs.block x ∷ declare_of (kept_declare.read d) ∷ assign_of (kept_assign.read d) ∷ update_of (kept_update.read d) ∷ cs.run (read_expr d)
+    ∷ join_of (kept_join.read d) ∷ lock_of (kept_lock.read d) ∷ unlock_of (kept_lock.read d) ∷ cs.branch (read_expr d) x y
+    ∷ cs.while (read_expr d) x ∷ cs.for x (read_expr d) y z ∷ cs.return (kept_place.read d) ∷ return_of (kept_return.read d)
+    ∷ delete_of (kept_delete.read d) ∷ cs.print ((kept_list kept_printed).read d) ∷ thread_of (kept_thread.read d) ∷ cs.abort ∷ [])
+    k
 
 abbrev mutual
   pub read_stmt : Gv → CoreStmt
