@@ -3,3 +3,5 @@ pub mod RenumberedStmts
 pub mod RenumberedNames
 pub mod Renumbered
 pub mod Examples
+pub mod Positions
+pub mod FunctionNumbers

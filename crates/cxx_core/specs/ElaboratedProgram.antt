@@ -84,13 +84,13 @@ abbrev pub number_by : Option Signature → Option ℕ
 number_by None = None
 number_by (Some s) = Some s.id.0
 
-abbrev pub ctor_by : Option ClassInfo → Option ℕ
+abbrev pub ctor_by : Option ClassInfo → Option Signature
 ctor_by None = None
-ctor_by (Some info) = number_by info.ctor
+ctor_by (Some info) = info.ctor
 
-abbrev pub dtor_by : Option ClassInfo → Option ℕ
+abbrev pub dtor_by : Option ClassInfo → Option Signature
 dtor_by None = None
-dtor_by (Some info) = number_by info.dtor
+dtor_by (Some info) = info.dtor
 
 abbrev pub info_by : Declared → Option ClassId → Option ClassInfo
 info_by d None = None
@@ -107,7 +107,7 @@ core_ctor w base f = record {
   kind = core.constructor;
   params = map (core_param w.declared) f.params;
   result = None;
-  base = ctor_by (info_by w.declared (base_class w.declared w.class));
+  base = number_by (ctor_by (info_by w.declared (base_class w.declared w.class)));
   base_arguments = base_arguments w (params_scope w.declared f.params) base f.inits;
   body = others_wrong base f.inits (core_block w (params_scope w.declared f.params) f.body);
 }
@@ -120,7 +120,7 @@ core_dtor w f = record {
   kind = core.destructor;
   params = [];
   result = None;
-  base = dtor_by (info_by w.declared (base_class w.declared w.class));
+  base = number_by (dtor_by (info_by w.declared (base_class w.declared w.class)));
   base_arguments = c.no_exprs;
   body = core_block w [] f.body;
 }
@@ -163,8 +163,8 @@ core_class d class x = record {
   base = base_class d (Some class);
   words = words d x.items;
   mutexes = mutexes x.items;
-  constructor = ctor_by (class_at d class);
-  destructor = dtor_by (class_at d class);
+  constructor = number_by (ctor_by (class_at d class));
+  destructor = number_by (dtor_by (class_at d class));
 }
 
 -- ---- globals

@@ -12,3 +12,4 @@ pub mod KeptExprs
 pub mod KeptStmts
 pub mod Codes
 pub mod Examples
+pub mod FunctionNumbers

@@ -1,6 +1,7 @@
 //! Laws of the core form.
 
 ghost use Rattle.cxx_core.specs.Laws.{NumberingKeepsCore};
+ghost use Rattle.cxx_core.specs.FunctionNumbers.{NumbersMeanFunctions};
 ghost use Rattle.cxx_core.specs.Examples.{ExamplesElaborate};
 
 /// However the nodes of a program are numbered, what it declares and its core form stay.
@@ -11,4 +12,9 @@ pub fn numbering_keeps_core()
 /// Two small programs have the core forms that are written out by hand.
 pub fn examples_elaborate()
     ensures { ExamplesElaborate }
+{}
+
+/// What a name of a function means, and what a call calls, stands at its number among the functions of the core form.
+pub fn numbers_mean_functions()
+    ensures { NumbersMeanFunctions }
 {}

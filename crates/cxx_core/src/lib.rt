@@ -5,4 +5,4 @@
 
 mod laws;
 
-pub use laws::{examples_elaborate, numbering_keeps_core};
+pub use laws::{examples_elaborate, numbering_keeps_core, numbers_mean_functions};
