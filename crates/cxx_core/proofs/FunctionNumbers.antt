@@ -1,5 +1,5 @@
 -- A function's number is its place among the functions of the core form.
-use Rattle.std.proofs.Common.{◌≡◌, ◌∙◌, ℕ, refl, sym, ap, arith, Bool, true, false, if◌then◌else◌, List, [], ◌∷◌, drop, map, Option, Some, None, option_map, slice_get, inl, inr, ◌⊎◌, subst}
+use Rattle.std.proofs.Common.{◌≡◌, ◌∙◌, ℕ, refl, sym, ap, arith, Bool, true, false, if◌then◌else◌, List, [], ◌∷◌, Option, Some, None, option_map, slice_get, inl, inr, ◌⊎◌, subst}
 use Rattle.std.proofs.lemmas.Option.{none-some, same_Some}
 use Rattle.agxx_base.specs.declared.ids.ClassId.{ClassId}
 use Rattle.agxx_base.specs.declared.place.Place.{Place}
@@ -16,7 +16,7 @@ use Rattle.cxx_core.specs.CoreProgram.{FunctionKind, plain, constructor, destruc
 use Rattle.cxx_core.specs.Meanings.{Scope, object_at, bare_callee, method_in, method_found, callee_at}
 use Rattle.cxx_core.specs.ElaboratedProgram as k
 use Rattle.cxx_core.specs.FunctionNumbers.{Any, StandsAt, IsCalled, within_program, NumbersMeanFunctions}
-use Rattle.cxx_core.proofs.Positions.{Held, IsGood, AreGood, at-numbered, decls-good, none-good}
+use Rattle.cxx_core.proofs.Positions.{Held, AreGood, at-numbered, decls-good, none-good}
 
 -- what is found on top was there before, or a class of the list has it
 topmost-has : {A : Type 0} (find : ClassId → Option A) (cs : List ClassId) (before : Option (ClassId × A)) (x : ClassId × A) → look.topmost find before cs ≡ Some x → (before ≡ Some x) ⊎ (find x.0 ≡ Some x.1)
@@ -38,9 +38,12 @@ module _ (names : List (List ℕ)) (q : ProgramTree) where
   good = decls-good names (d.declared names q) listed q.decls d.empty (none-good names (d.declared names q) listed) refl
 
   stands : (kind : FunctionKind) (class : Option ClassId) (IsName : ℕ → Type 0) (s : Signature) → Held (d.declared names q) listed kind class IsName s → StandsAt names q kind class IsName s
-  stands kind class IsName s held =
-      (record held.0 { number = s.id.0 }, at-numbered 0 listed s.id.0 s.id.0 held.0 (omega arith) held.1, held.2,
-        record { number = refl; kind = held.3; class = held.4; params = held.5; result = held.6 })
+  stands kind class IsName s held = (
+    record held.0 { number = s.id.0 },
+    at-numbered 0 listed s.id.0 s.id.0 held.0 (omega arith) held.1,
+    held.2,
+    record { number = refl; kind = held.3; class = held.4; params = held.5; result = held.6 },
+  )
 
   free : (name : ℕ) (s : Signature) → look.free_signature (d.declared names q) name ≡ Some s → StandsAt names q plain None (λ n. n ≡ name) s
   free name s e = stands plain None (λ n. n ≡ name) s (good.functions name s e)
@@ -96,6 +99,7 @@ module _ (names : List (List ℕ)) (q : ProgramTree) where
       among : (o : Option (ClassId × Signature)) → look.own_function (d.declared names q) class r.name.item.0 ≡ o → look.function_by o (look.free_function (d.declared names q) r.name.item.0) ≡ Some f → Found r.name.item.0 f
       among None same found = free-found r.name.item.0 (look.free_signature (d.declared names q) r.name.item.0) f refl found
       among (Some m) same found = subst (Found r.name.item.0) (same_Some (Some m.0, m.1) f found) (own-found class r.name.item.0 m same)
+
       by : (b : Bool) → (if b then look.free_function (d.declared names q) r.name.item.0 else look.function_by (look.own_function (d.declared names q) class r.name.item.0) (look.free_function (d.declared names q) r.name.item.0)) ≡ Some f → Found r.name.item.0 f
       by true found = free-found r.name.item.0 (look.free_signature (d.declared names q) r.name.item.0) f refl found
       by false found = among (look.own_function (d.declared names q) class r.name.item.0) refl found
@@ -105,14 +109,14 @@ module _ (names : List (List ℕ)) (q : ProgramTree) where
   bare-called at r (Some f) called found e =
       let s = found f refl in
       subst Called (same_Some _ called e)
-        (s.0, s.1, record { number = s.3.number; kind = s.3.kind; class = s.3.class; name = s.2; result = s.3.result })
+      (s.0, s.1, record { number = s.3.number; kind = s.3.kind; class = s.3.class; name = s.2; result = s.3.result })
 
   method-called : (at named : Place) (name : ℕ) (x : CoreObject) (o : Option (ClassId × Signature)) (called : CoreCallee) → ((m : ClassId × Signature) → o ≡ Some m → Found name (Some m.0, m.1)) → method_found (d.declared names q) at named name x o ≡ Some called → Called called
   method-called at named name x None called found e = absurd (none-some called e)
   method-called at named name x (Some m) called found e =
       let s = found m refl in
       subst Called (same_Some _ called e)
-        (s.0, s.1, record { number = s.3.number; kind = s.3.kind; class = s.3.class; name = s.2; result = s.3.result })
+      (s.0, s.1, record { number = s.3.number; kind = s.3.kind; class = s.3.class; name = s.2; result = s.3.result })
 
   object-called : (at named : Place) (name : ℕ) (o : Option (CoreObject × ClassId)) (called : CoreCallee) → method_in (d.declared names q) at named name o ≡ Some called → Called called
   object-called at named name None called e = absurd (none-some called e)

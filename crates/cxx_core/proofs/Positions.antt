@@ -88,7 +88,7 @@ module _ (known : Declared) (all : List CoreFunction) where
   abbrev pub Held : FunctionKind → Option ClassId → (ℕ → Type 0) → Signature → Type 0
   Held kind class IsName s =
       (f : CoreFunction) × (slice_get all s.id.0 ≡ Some f) × IsName f.name.item.0 × (f.kind ≡ kind) × (f.class ≡ class)
-        × (f.params ≡ map (k.core_param known) s.params) × (f.result ≡ type_named known s.result)
+      × (f.params ≡ map (k.core_param known) s.params) × (f.result ≡ type_named known s.result)
 
   pub record IsGood (class : ClassId) (info : ClassInfo) : Type 0 where
     pub methods : Meant (λ name s. Held plain (Some class) (λ n. n ≡ name) s) info.methods
@@ -125,35 +125,35 @@ module _ (names : List (List ℕ)) (known : Declared) (all : List CoreFunction) 
         let s = d.with_method (record { info = info; shown = shown; count = count; numbered = n }) f in
         let at = at-drop n all (k.core_function inside f) (k.items_functions inside base xs rest) e in
         items-good xs s.info shown (suc count) (suc n)
-          (record {
-            methods = meant-with (λ name t. Held known all plain inside.class (λ m. m ≡ name) t) info.methods f.name.item.0
+        (record {
+          methods = meant-with (λ name t. Held known all plain inside.class (λ m. m ≡ name) t) info.methods f.name.item.0
               (d.signature n f.result.item f.params shown false) good.methods (k.core_function inside f, at.0, refl, refl, refl, refl, refl);
-            ctor = good.ctor;
-            dtor = good.dtor;
-          })
-          at.1
+          ctor = good.ctor;
+          dtor = good.dtor;
+        })
+        at.1
     items-good (p.ctor f ∷ xs) info shown count n good e =
         let s = d.with_ctor (record { info = info; shown = shown; count = count; numbered = n }) f.params in
         let at = at-drop n all (k.core_ctor inside base f) (k.items_functions inside base xs rest) e in
         items-good xs s.info shown (suc count) (suc n)
-          (record {
-            methods = good.methods;
-            ctor = first-with (Held known all constructor inside.class Any) info.ctor
+        (record {
+          methods = good.methods;
+          ctor = first-with (Held known all constructor inside.class Any) info.ctor
               (d.signature n Void f.params shown false) good.ctor (k.core_ctor inside base f, at.0, tt, refl, refl, refl, refl);
-            dtor = good.dtor;
-          })
-          at.1
+          dtor = good.dtor;
+        })
+        at.1
     items-good (p.dtor f ∷ xs) info shown count n good e =
         let s = d.with_dtor (record { info = info; shown = shown; count = count; numbered = n }) in
         let at = at-drop n all (k.core_dtor inside f) (k.items_functions inside base xs rest) e in
         items-good xs s.info shown (suc count) (suc n)
-          (record {
-            methods = good.methods;
-            ctor = good.ctor;
-            dtor = first-with (Held known all destructor inside.class Any) info.dtor
+        (record {
+          methods = good.methods;
+          ctor = good.ctor;
+          dtor = first-with (Held known all destructor inside.class Any) info.dtor
               (d.signature n Void [] shown false) good.dtor (k.core_dtor inside f, at.0, tt, refl, refl, refl, refl);
-          })
-          at.1
+        })
+        at.1
 
   begun-good : (number : ℕ) (found : Declared) (c : p.ClassTree) → IsGood known all (record { 0 = number }) (d.class_begun found c)
   begun-good number found c =
@@ -179,19 +179,19 @@ module _ (names : List (List ℕ)) (known : Declared) (all : List CoreFunction) 
       let rest = k.decls_functions (k.outside names known) (suc number) xs in
       let done = items-good number c.base rest c.items (d.class_begun found c) (d.default_access c.word) 0 found.numbered (begun-good number found c) e in
       decls-good xs (d.with_class found c) (class-good found c good done.0)
-        (done.1 ∙ ap (λ n. k.decls_functions (k.outside names known) n xs) (sym (length-one-more found.classes (d.class_items found c).info)))
+      (done.1 ∙ ap (λ n. k.decls_functions (k.outside names known) n xs) (sym (length-one-more found.classes (d.class_items found c).info)))
   decls-good (p.class_name c ∷ xs) found good e =
       decls-good xs (d.passed_over found) (record { functions = good.functions; classes = good.classes }) e
   decls-good (p.free_function f ∷ xs) found good e =
       let outside = k.outside names known in
       let at = at-drop found.numbered all (k.core_function outside f) (k.decls_functions outside (length found.classes) xs) e in
       decls-good xs (d.with_function names found f)
-        (record {
-          functions = meant-with (λ name t. Held known all plain None (λ m. m ≡ name) t) found.functions f.name.item.0
+      (record {
+        functions = meant-with (λ name t. Held known all plain None (λ m. m ≡ name) t) found.functions f.name.item.0
             (d.signature found.numbered f.result.item f.params Public (d.is_text names f.name.item.0 (codes "main"))) good.functions (k.core_function outside f, at.0, refl, refl, refl, refl, refl);
-          classes = good.classes;
-        })
-        at.1
+        classes = good.classes;
+      })
+      at.1
   decls-good (p.proto f ∷ xs) found good e =
       decls-good xs (d.passed_over found) (record { functions = good.functions; classes = good.classes }) e
   decls-good (p.global g ∷ xs) found good e =

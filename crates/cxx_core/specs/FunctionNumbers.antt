@@ -25,7 +25,7 @@ pub record IsSigned (d : Declared) (of_kind : FunctionKind) (in_class : Option C
 abbrev pub StandsAt : List (List ℕ) → ProgramTree → FunctionKind → Option ClassId → (ℕ → Type 0) → Signature → Type 0
 StandsAt names q of_kind in_class IsName s =
     (f : CoreFunction) × (slice_get (core_program names q).functions s.id.0 ≡ Some f) × IsName f.name.item.0
-      × IsSigned (declared names q) of_kind in_class s f
+    × IsSigned (declared names q) of_kind in_class s f
 
 abbrev pub Any : ℕ → Type 0
 Any name = Unit {0}

@@ -13,3 +13,4 @@ pub mod KeptStmts
 pub mod Codes
 pub mod Examples
 pub mod FunctionNumbers
+pub mod WiderExample
