@@ -27,7 +27,7 @@ use Rattle.cxx_core.specs.CoreExpr as c
 use Rattle.cxx_core.specs.CoreExpr.{CoreExprs}
 use Rattle.cxx_core.specs.CoreStmt as cs
 use Rattle.cxx_core.specs.CoreStmt.{CoreStmts}
-use Rattle.cxx_core.specs.CoreProgram as core
+use Rattle.cxx_core.specs.CoreProgram as cp
 use Rattle.cxx_core.specs.CoreProgram.{CoreParam, CoreFunction, CoreWord, CoreClass, CoreGlobal, CoreProgram}
 use Rattle.cxx_core.specs.Meanings.{Scope, Within, type_named, kind_named}
 use Rattle.cxx_core.specs.ElaboratedExpr.{literal, core_exprs}
@@ -55,7 +55,7 @@ core_function w f = record {
   number = 0;
   name = f.name;
   class = w.class;
-  kind = core.plain;
+  kind = cp.plain;
   params = map (core_param w.declared) f.params;
   result = type_named w.declared f.result.item;
   base = None;
@@ -104,7 +104,7 @@ core_ctor w base f = record {
   number = 0;
   name = f.name;
   class = w.class;
-  kind = core.constructor;
+  kind = cp.constructor;
   params = map (core_param w.declared) f.params;
   result = None;
   base = number_by (ctor_by (info_by w.declared (base_class w.declared w.class)));
@@ -117,7 +117,7 @@ core_dtor w f = record {
   number = 0;
   name = f.name;
   class = w.class;
-  kind = core.destructor;
+  kind = cp.destructor;
   params = [];
   result = None;
   base = number_by (dtor_by (info_by w.declared (base_class w.declared w.class)));
@@ -184,19 +184,19 @@ first_value k None = record { kind = k; bits = 0 }
 first_value k (Some initial) = convert_of k (const_value initial.item)
 
 abbrev pub variable_as : Place → ℕ → Option ValueType → Option (Placed Const) → CoreGlobal
-variable_as at name (Some (type.Number k)) initial = core.number name (first_value k initial)
-variable_as at name (Some (type.Pointer class)) initial = core.pointer name class
-variable_as at name _ initial = core.wrong at
+variable_as at name (Some (type.Number k)) initial = cp.number name (first_value k initial)
+variable_as at name (Some (type.Pointer class)) initial = cp.pointer name class
+variable_as at name _ initial = cp.wrong at
 
 abbrev pub object_as : Place → ℕ → Option ClassId → CoreExprs → CoreGlobal
-object_as at name None arguments = core.wrong at
-object_as at name (Some class) arguments = core.object at name class arguments
+object_as at name None arguments = cp.wrong at
+object_as at name (Some class) arguments = cp.object at name class arguments
 
 abbrev pub core_global : Within → p.GlobalTree → CoreGlobal
 core_global w (p.variable v) = variable_as v.type_name.at v.name.item.0 (type_named w.declared v.type_name.item) v.initial
 core_global w (p.object o) =
     object_as o.class.at o.name.item.0 (class_named w.declared o.class.item.0) (core_exprs w [] o.arguments)
-core_global w (p.mutex at name) = core.mutex name.item.0
+core_global w (p.mutex at name) = cp.mutex name.item.0
 
 -- ---- programs
 

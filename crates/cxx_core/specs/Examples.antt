@@ -27,7 +27,7 @@ use Rattle.cxx_names.specs.declared.types.ValueType.{ValueType}
 use Rattle.cxx_names.specs.declared.types.ValueType.TheVariants as type
 use Rattle.cxx_core.specs.CoreExpr as c
 use Rattle.cxx_core.specs.CoreStmt as cs
-use Rattle.cxx_core.specs.CoreProgram as core
+use Rattle.cxx_core.specs.CoreProgram as cp
 use Rattle.cxx_core.specs.CoreProgram.{CoreFunction, CoreProgram}
 use Rattle.cxx_core.specs.ElaboratedProgram.{core_program}
 
@@ -117,7 +117,7 @@ shadowing_core = record {
     number = 0;
     name = name 2 1;
     class = None;
-    kind = core.plain;
+    kind = cp.plain;
     params = [];
     result = Some int32;
     base = None;
@@ -129,7 +129,7 @@ shadowing_core = record {
         ∷ []);
   } ∷ [];
   classes = [];
-  globals = core.number 0 (record { kind = I32; bits = 0 }) ∷ [];
+  globals = cp.number 0 (record { kind = I32; bits = 0 }) ∷ [];
   main = Some 0;
 }
 
@@ -203,7 +203,7 @@ set_function = record {
   number = 0;
   name = name 4 2;
   class = Some first_class;
-  kind = core.plain;
+  kind = cp.plain;
   params = record { name = 3; type = int32 } ∷ [];
   result = None;
   base = None;
@@ -211,7 +211,7 @@ set_function = record {
   body = stmts_of (cs.assign (c.member (at 4) c.own first_class 1 I32) (c.read (c.variable (c.local 3 int32))) ∷ []);
 }
 
-abbrev pub empty_function : ℕ → Placed NameId → core.FunctionKind → CoreFunction
+abbrev pub empty_function : ℕ → Placed NameId → cp.FunctionKind → CoreFunction
 empty_function number given kind = record {
   number = number;
   name = given;
@@ -241,7 +241,7 @@ main_function = record {
   number = 3;
   name = name 10 6;
   class = None;
-  kind = core.plain;
+  kind = cp.plain;
   params = [];
   result = Some int32;
   base = None;
@@ -258,7 +258,7 @@ main_function = record {
 
 abbrev pub using_objects_core : CoreProgram
 using_objects_core = record {
-  functions = set_function ∷ empty_function 1 (name 5 0) core.constructor ∷ empty_function 2 (name 6 0) core.destructor ∷ main_function ∷ [];
+  functions = set_function ∷ empty_function 1 (name 5 0) cp.constructor ∷ empty_function 2 (name 6 0) cp.destructor ∷ main_function ∷ [];
   classes = record {
     name = name 1 0;
     base = None;
@@ -267,7 +267,7 @@ using_objects_core = record {
     constructor = Some 1;
     destructor = Some 2;
   } ∷ [];
-  globals = core.object (at 8) 4 first_class c.no_exprs ∷ core.mutex 5 ∷ [];
+  globals = cp.object (at 8) 4 first_class c.no_exprs ∷ cp.mutex 5 ∷ [];
   main = Some 3;
 }
 

@@ -19,7 +19,7 @@ use Rattle.cxx_names.specs.declared.types.ValueType.{ValueType}
 use Rattle.cxx_names.specs.declared.types.ValueType.TheVariants as type
 use Rattle.cxx_core.specs.CoreExpr as c
 use Rattle.cxx_core.specs.CoreStmt as cs
-use Rattle.cxx_core.specs.CoreProgram as core
+use Rattle.cxx_core.specs.CoreProgram as cp
 use Rattle.cxx_core.specs.CoreProgram.{CoreFunction, CoreProgram}
 use Rattle.cxx_core.specs.ElaboratedProgram.{core_program}
 use Rattle.cxx_core.specs.Examples.{at, node, placed, name, ref, number_type, pointer_to, reading, literal, selector, calling, starting_with, assigning, in_braces, program_of, stmts_of, int32, value_of}
@@ -160,7 +160,7 @@ b_class = record { 0 = 0 }
 abbrev pub d_class : ClassId
 d_class = record { 0 = 1 }
 
-abbrev pub plain_function : ℕ → Placed NameId → Option ClassId → core.FunctionKind → cs.CoreStmts → CoreFunction
+abbrev pub plain_function : ℕ → Placed NameId → Option ClassId → cp.FunctionKind → cs.CoreStmts → CoreFunction
 plain_function number given class of_kind body = record {
   number = number;
   name = given;
@@ -207,18 +207,18 @@ main_core = stmts_of (
 abbrev pub expected : CoreProgram
 expected = record {
   functions =
-      record (plain_function 0 (name 3 0) (Some b_class) core.constructor
+      record (plain_function 0 (name 3 0) (Some b_class) cp.constructor
       (stmts_of (cs.assign (c.member (at 3) c.by_this b_class 1 kind.U64) (c.read (c.variable (c.local 2 uint64))) ∷ []))) {
         params = record { name = 2; type = uint64 } ∷ [];
       }
-      ∷ plain_function 1 (name 4 0) (Some b_class) core.destructor cs.no_stmts
-      ∷ record (plain_function 2 (name 8 3) (Some d_class) core.constructor cs.no_stmts) {
+      ∷ plain_function 1 (name 4 0) (Some b_class) cp.destructor cs.no_stmts
+      ∷ record (plain_function 2 (name 8 3) (Some d_class) cp.constructor cs.no_stmts) {
         base = Some 0;
         base_arguments = c.more_exprs (value_of 5) c.no_exprs;
       }
-      ∷ record (plain_function 3 (name 9 3) (Some d_class) core.destructor cs.no_stmts) { base = Some 1 }
-      ∷ record (plain_function 4 (name 12 6) None core.plain w_core) { params = record { name = 7; type = int32 } ∷ [] }
-      ∷ record (plain_function 5 (name 17 9) None core.plain main_core) { result = Some int32 }
+      ∷ record (plain_function 3 (name 9 3) (Some d_class) cp.destructor cs.no_stmts) { base = Some 1 }
+      ∷ record (plain_function 4 (name 12 6) None cp.plain w_core) { params = record { name = 7; type = int32 } ∷ [] }
+      ∷ record (plain_function 5 (name 17 9) None cp.plain main_core) { result = Some int32 }
       ∷ [];
   classes =
       record {
@@ -238,7 +238,7 @@ expected = record {
         destructor = Some 3;
       }
       ∷ [];
-  globals = core.number 5 (record { kind = kind.I8; bits = 255 }) ∷ [];
+  globals = cp.number 5 (record { kind = kind.I8; bits = 255 }) ∷ [];
   main = Some 5;
 }
 
