@@ -1,0 +1,16 @@
+pub mod CoreExpr
+pub mod CoreStmt
+pub mod CoreProgram
+pub mod Meanings
+pub mod ElaboratedExpr
+pub mod ElaboratedStmt
+pub mod ElaboratedProgram
+pub mod Laws
+pub mod Kept
+pub mod KeptParts
+pub mod KeptExprs
+pub mod KeptStmts
+pub mod Codes
+pub mod Examples
+pub mod FunctionNumbers
+pub mod WiderExample

@@ -1,0 +1,8 @@
+//! Programs as a machine runs them: each name with its meaning, each operator with the types of its operands, and nothing
+//! of the text but the places that a stop tells. The forms stand in `specs`: `CoreExpr`, `CoreStmt` and `CoreProgram`;
+//! `Meanings`, `ElaboratedExpr`, `ElaboratedStmt` and `ElaboratedProgram` make them of trees.
+#![tactic(auto)]
+
+mod laws;
+
+pub use laws::{examples_elaborate, numbering_keeps_core, numbers_mean_functions};
