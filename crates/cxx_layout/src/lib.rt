@@ -1,0 +1,10 @@
+//! The words of objects, and the classes with a part in them.
+#![tactic(auto)]
+
+mod layouts;
+mod parts;
+
+pub use layouts::{ClassList, Layout, Layouts, WordInfo};
+
+#[cfg(test)]
+mod tests;
