@@ -4,13 +4,13 @@ use Rattle.std.specs.Option.{is_some}
 use Rattle.agxx_base.specs.declared.fault.Refusal.{Refusal}
 use Rattle.cxx_types.specs.Violations.{is_before, least, least_from}
 
+stays-by : (r one : Refusal) (rs : List Refusal) (b : Bool) → is_some (least_from (Some r) rs) ≡ true → is_some (least_from (Some one) rs) ≡ true → is_some (least_from (if b then Some r else Some one) rs) ≡ true
+stays-by r one rs true p q = p
+stays-by r one rs false p q = q
+
 some-stays : (one : Refusal) (rs : List Refusal) → is_some (least_from (Some one) rs) ≡ true
 some-stays one [] = refl
-some-stays one (r ∷ rs) = by (is_before r one)
-    where
-      by : (b : Bool) → is_some (least_from (if b then Some r else Some one) rs) ≡ true
-      by true = some-stays r rs
-      by false = some-stays one rs
+some-stays one (r ∷ rs) = stays-by r one rs (is_before r one) (some-stays r rs) (some-stays one rs)
 
 -- where none is the least there is none
 pub none_is_least : (rs : List Refusal) → least rs ≡ None → rs ≡ []

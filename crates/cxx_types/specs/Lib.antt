@@ -12,3 +12,4 @@ pub mod Statements
 pub mod Classes
 pub mod Programs
 pub mod Violations
+pub mod Typing

@@ -17,6 +17,10 @@ mod programs;
 mod refusals;
 mod selections;
 mod statements;
+mod typed;
 
 pub use context::Context;
+pub use cxx_layout::{ClassList, Layout, WordInfo};
+pub use cxx_names::ValueType;
 pub use entry::{Entry, Meaning};
+pub use typed::{Typed, check};
