@@ -1,5 +1,5 @@
 -- Members of a class that are gone through in order.
-use Rattle.std.proofs.Common.{◌≡◌, ℕ, ◌+◌, Bool, true, false, ◌||◌, refl, sym, ap, ◌∙◌, List, ◌∷◌, ◌++◌, drop, Some, slice_get, append_assoc}
+use Rattle.std.proofs.Common.{◌≡◌, ℕ, ◌+◌, Bool, true, false, ◌||◌, sym, ap, ◌∙◌, List, ◌∷◌, ◌++◌, drop, Some, slice_get, append_assoc}
 use Rattle.std.proofs.lemmas.List.{at_drop_more}
 use Rattle.std.proofs.lemmas.Option.{slice_get_within, get_or_from_slice_get}
 use Rattle.agxx_base.specs.declared.ids.ClassId.{ClassId}
