@@ -31,11 +31,11 @@ pub record IsTypedOf (names : List (List ℕ)) (mode : Mode) (q : ProgramTree) (
   pub accepted : violations_of names mode q ≡ []
   pub program : program_tree t.program ≡ q
   pub texts : t.texts ≡ names
-  pub declared : t.declared ≡ declared names q
+  pub tables : t.declared ≡ declared names q
   -- the nodes in text order, so that of a normal program a node's number is its place among them
   pub nodes : t.entries ≡ (checked names mode q).entries
-  pub layouts : t.layouts.layouts ≡ layouts (declared names q)
-  pub parts : t.layouts.parts ≡ all_parts names (declared names q)
+  pub words : t.layouts.layouts ≡ layouts (declared names q)
+  pub part_classes : t.layouts.parts ≡ all_parts names (declared names q)
 
 abbrev pub IsChecked : List (List ℕ) → Mode → ProgramTree → Fault → Type 0
 IsChecked names mode q f = IfRefusal f (λ refusal. refusal_of names mode q ≡ Some refusal)

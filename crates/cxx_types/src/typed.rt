@@ -2,7 +2,7 @@
 
 ghost use Rattle.std.specs.Prelude.{◌≡◌, ◌++◌, Some, IfOk, IfErr, IsSome, OnOk};
 ghost use Rattle.cxx_tree.specs.ProgramTree.{program_tree};
-ghost use Rattle.cxx_names.specs.Declarations.{declared};
+ghost use Rattle.cxx_names.specs.Declarations as declarations;
 ghost use Rattle.cxx_names.specs.LookUp as look_up;
 ghost use Rattle.cxx_types.specs.Programs.{checked};
 ghost use Rattle.cxx_types.specs.Violations.{too_many_names};
@@ -53,14 +53,14 @@ fn copied(alloc: Global, names: &Names) -> Result<ListOf<Text>, Memory>
 }
 
 /// Goes through the declarations of a program.
-fn findings(
+fn go_through(
     alloc: Global,
     names: &Names,
     declared: &Declared,
     program: &Program,
     mode: Mode,
 ) -> Result<Findings, Memory>
-    requires { declared.now ≡ declared names.now (program_tree program.now) }
+    requires { declared.now ≡ declarations.declared names.now (program_tree program.now) }
     ensures violations { IfOk result (λ found. found.violations ≡ (checked names.now mode (program_tree program.now)).found) }
     ensures entries { IfOk result (λ found. found.entries ≡ (checked names.now mode (program_tree program.now)).entries) }
 {
@@ -119,7 +119,7 @@ pub fn check(
     let Findings {
         mut violations,
         entries,
-    } = findings(alloc, names, &declared, &program, mode)?;
+    } = go_through(alloc, names, &declared, &program, mode)?;
     add_names(alloc, &mut violations, &program, mode)?;
     match least(violations.as_slice()) {
         Some(refusal) => Err(Fault::Refused(refusal)),
