@@ -27,8 +27,11 @@ use Rattle.cxx_parse.proofs.Whole.{read-done, read-all, read-syntax, read-deep, 
 decided-by : (d : Dialect) → IsApart d → (ts : Tokens) (end : Place) (o : Outcome Tokens ProgramTree) → program most_operators d (limits_of (grammar d)).nesting (file_start end) ts ≡ o
     → ((q : ProgramTree) × IsProgramOf d ts end q × IsDescent d ts end q) ⊎ ((refusal : Refusal) × IsUngrammatical d ts end refusal)
 decided-by d apart ts end (done q rest) h =
-    inl (q, read-done d apart (limits_of (grammar d)).nesting refl (file_start end) ts q rest end refl h,
-         read-all d apart (limits_of (grammar d)).nesting refl (file_start end) ts q rest end refl h)
+    inl (
+      q,
+      read-done d apart (limits_of (grammar d)).nesting refl (file_start end) ts q rest end refl h,
+      read-all d apart (limits_of (grammar d)).nesting refl (file_start end) ts q rest end refl h,
+    )
 decided-by d apart ts end (failed Syntax rest) h = inr (_, read-syntax d apart (limits_of (grammar d)).nesting refl (file_start end) ts rest end h)
 decided-by d apart ts end (failed Deep rest) h = inr (_, read-deep d apart (limits_of (grammar d)).nesting refl (file_start end) ts rest end h)
 decided-by d apart ts end (failed Memory rest) h = absurd (never-memory d apart (limits_of (grammar d)).nesting refl (file_start end) ts rest h)

@@ -60,9 +60,9 @@ function_meant c r s = function s.declared c.class r
 abbrev pub bare_checked : Context → Node → Ref → ℕ → Bool → Option ClassId × Signature → State → State
 bare_checked c n r count as_value f s =
     required rule.N3 n.at (if as_value then not (is_void f.1.result) else true)
-      (required rule.N4 r.name.at (counts count f.1.params)
-        (required rule.N8 n.at (not f.1.is_main)
-          (required rule.N6 r.name.at (access_of s.declared c.class f) s)))
+    (required rule.N4 r.name.at (counts count f.1.params)
+    (required rule.N8 n.at (not f.1.is_main)
+    (required rule.N6 r.name.at (access_of s.declared c.class f) s)))
 
 abbrev pub bare_is_right : Context → ℕ → Option ClassId × Signature → State → Bool
 bare_is_right c count f s =
@@ -71,18 +71,19 @@ bare_is_right c count f s =
 abbrev pub bare_by : Context → Node → Ref → ℕ → Bool → Option (Option ClassId × Signature) → State → State × Callable
 bare_by c n r count as_value None s =
     (noted None meaning.Other (noted None meaning.Other (required rule.N1 r.name.at false s)), unknown)
-bare_by c n r count as_value (Some f) s =
-    (noted (result_type s.declared f.1.result) (meaning.Function f.1.id)
+bare_by c n r count as_value (Some f) s = (
+  noted (result_type s.declared f.1.result) (meaning.Function f.1.id)
       (noted (result_type s.declared f.1.result) (meaning.Function f.1.id) (bare_checked c n r count as_value f s)),
-     record { params = f.1.params; result = result_type s.declared f.1.result; is_right = bare_is_right c count f s })
+  record { params = f.1.params; result = result_type s.declared f.1.result; is_right = bare_is_right c count f s },
+)
 
 -- ---- behind what has functions
 
 abbrev pub method_checked : Context → Node → Placed NameId → ClassId → ℕ → Bool → ClassId × Signature → State → State
 method_checked c n name holder count as_value f s =
     required rule.N3 n.at (if as_value then not (is_void f.1.result) else true)
-      (required rule.N4 name.at (counts count f.1.params)
-        (required rule.N6 name.at (is_accessible s.declared f.1.access c.class holder f.0) s))
+    (required rule.N4 name.at (counts count f.1.params)
+    (required rule.N6 name.at (is_accessible s.declared f.1.access c.class holder f.0) s))
 
 abbrev pub method_is_right : Context → ClassId → ℕ → ClassId × Signature → State → Bool
 method_is_right c holder count f s = if is_accessible s.declared f.1.access c.class holder f.0 then counts count f.1.params else false
@@ -92,18 +93,20 @@ method_meant holder name s = method_named s.declared holder name.item.0
 
 abbrev pub method_by : Context → Node → Placed NameId → ClassId → ℕ → Bool → Option (ClassId × Signature) → State → State × Callable
 method_by c n name holder count as_value None s = (noted None meaning.Other (required rule.N1 name.at false s), unknown)
-method_by c n name holder count as_value (Some f) s =
-    (noted (result_type s.declared f.1.result) (meaning.Function f.1.id) (method_checked c n name holder count as_value f s),
-     record { params = f.1.params; result = result_type s.declared f.1.result; is_right = method_is_right c holder count f s })
+method_by c n name holder count as_value (Some f) s = (
+  noted (result_type s.declared f.1.result) (meaning.Function f.1.id) (method_checked c n name holder count as_value f s),
+  record { params = f.1.params; result = result_type s.declared f.1.result; is_right = method_is_right c holder count f s },
+)
 
 -- a function of a thread or a mutex, which is no value
 abbrev pub asked : Node → Placed NameId → ℕ → Bool → Bool → State → State × Callable
-asked n name count as_value is_function s =
-    (noted None meaning.Other
+asked n name count as_value is_function s = (
+  noted None meaning.Other
       (required rule.N4 name.at (if is_function then nat_eq count 0 else true)
-        (required rule.N8 n.at (if is_function then not as_value else true)
-          (required rule.N1 name.at is_function s))),
-     unknown)
+      (required rule.N8 n.at (if is_function then not as_value else true)
+      (required rule.N1 name.at is_function s))),
+  unknown,
+)
 
 abbrev pub called_behind : Context → Node → Placed NameId → ℕ → Bool → Holder → State → State × Callable
 called_behind c n name count as_value (holder_of.Class class) s =
@@ -143,14 +146,15 @@ lent_class r = r.now
 -- the constructor of a class is used in a function of the class `viewer`, if of any
 abbrev pub constructed : Option ClassId → ClassId → Place → ℕ → Option Signature → State → State × Callable
 constructed viewer class at count None s = (s, unknown)
-constructed viewer class at count (Some f) s =
-    (required rule.N4 at (counts count f.params)
+constructed viewer class at count (Some f) s = (
+  required rule.N4 at (counts count f.params)
       (required rule.N6 at (is_accessible s.declared f.access viewer class class) s),
-     record {
-       params = f.params;
-       result = Some (value.Pointer class);
-       is_right = if is_accessible s.declared f.access viewer class class then counts count f.params else false
-     })
+  record {
+    params = f.params;
+    result = Some (value.Pointer class);
+    is_right = if is_accessible s.declared f.access viewer class class then counts count f.params else false;
+  },
+)
 
 abbrev pub created_by : Context → Placed NameId → ℕ → Option ClassId → State → State × Callable
 created_by c name count None s = (noted None meaning.Other (required rule.N1 name.at false s), unknown)

@@ -135,8 +135,8 @@ names_base base class name = both (is_some class.base) (names_by base name)
 abbrev pub base_init : Context → ClassInfo → InitTree → State → State
 base_init c class i s =
     (exprs c (base_params (base_ctor class s)) true i.arguments
-      (base_arguments c i.arguments
-        (required rule.N4 i.name.at (counts (count i.arguments) (base_params (base_ctor class s))) s))).0
+    (base_arguments c i.arguments
+    (required rule.N4 i.name.at (counts (count i.arguments) (base_params (base_ctor class s))) s))).0
 
 -- a member gets its one argument
 abbrev pub member_arguments : Context → Placed NameId → TypeName → ExprTrees → State → State
@@ -200,7 +200,7 @@ inherited (Some base) name s = has_item s.declared base name.0
 abbrev pub own_item : Context → ClassInfo → ℕ → Placed NameId → State → State
 own_item c class index name s =
     no_class c name
-      (required rule.N2 name.at (not (either (stands_before (named class.items name.item.0) index) (inherited class.base name.item s))) s)
+    (required rule.N2 name.at (not (either (stands_before (named class.items name.item.0) index) (inherited class.base name.item s))) s)
 
 abbrev pub is_pointer : TypeName → Bool
 is_pointer (type_name.Pointer class) = true
@@ -209,14 +209,14 @@ is_pointer _ = false
 unfoldable pub member : Context → ClassInfo → ItemsSeen → Member → State → State
 member c class seen m s =
     own_item c class seen.index m.name
-      (required rule.N8 m.name.at (not (is_pointer m.type_name.item))
-        (variable_type m.type_name
-          (required rule.N10 m.name.at (not (nat_eq seen.members s.most.members)) s)))
+    (required rule.N8 m.name.at (not (is_pointer m.type_name.item))
+    (variable_type m.type_name
+    (required rule.N10 m.name.at (not (nat_eq seen.members s.most.members)) s)))
 
 unfoldable pub method : Context → ClassInfo → ItemsSeen → FunctionTree → State → State
 method c class seen f s =
     function (record c { owner = owner.Function f.result.item }) f
-      (own_item c class seen.index f.name (required rule.N10 f.name.at (not (nat_eq seen.methods s.most.methods)) s))
+    (own_item c class seen.index f.name (required rule.N10 f.name.at (not (nat_eq seen.methods s.most.methods)) s))
 
 -- what was seen of a class's items after one more
 abbrev pub next_seen : ItemTree → ItemsSeen → ItemsSeen
@@ -259,8 +259,8 @@ is_derivable (Some f) = not (is_private f.access)
 abbrev pub head : Option (Placed NameId) → ClassInfo → State → State
 head base class s =
     required rule.N10 class.name.at (not (nat_eq class.ancestors (suc most_ancestors)))
-      (required rule.N6 class.name.at (both (is_derivable (base_ctor class s)) (is_derivable (base_dtor_in s.declared class)))
-        (base_is_known base class s))
+    (required rule.N6 class.name.at (both (is_derivable (base_ctor class s)) (is_derivable (base_dtor_in s.declared class)))
+    (base_is_known base class s))
 
 -- A class, of which this is known, with its items. The context has the class and its place among the declarations.
 unfoldable pub class : Context → ClassInfo → ClassTree → State → State

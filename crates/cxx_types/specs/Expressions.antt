@@ -63,9 +63,10 @@ abbrev pub operated : ℕ → Node → UnOp → Typed → Typed
 operated index n o x = (closed index (unary_type o x.1) (required rule.N3 n.at (takes_one o x.1) x.0), unary_type o x.1)
 
 abbrev pub joined : ℕ → Placed BinOp → Option ValueType → Typed → Typed
-joined index o a y =
-    (closed index (binary_type y.0.declared o.item a y.1) (required rule.N3 o.at (takes y.0.declared o.item a y.1) y.0),
-     binary_type y.0.declared o.item a y.1)
+joined index o a y = (
+  closed index (binary_type y.0.declared o.item a y.1) (required rule.N3 o.at (takes y.0.declared o.item a y.1) y.0),
+  binary_type y.0.declared o.item a y.1,
+)
 
 abbrev pub grouped : ℕ → Typed → Typed
 grouped index x = (closed index x.1 x.0, x.1)

@@ -82,14 +82,14 @@ global_place (p.mutex at name) = name
 unfoldable pub global : DeclsSeen → GlobalTree → State → State
 global seen g s =
     global_item seen.index g
-      (own_decl seen.index (global_place g) (required rule.N10 (global_place g).at (not (nat_eq seen.globals s.most.globals)) s))
+    (own_decl seen.index (global_place g) (required rule.N10 (global_place g).at (not (nat_eq seen.globals s.most.globals)) s))
 
 -- ---- declarations
 
 abbrev pub free_function : DeclsSeen → FunctionTree → State → State
 free_function seen f s =
     function (record { class = None; owner = owner.Function f.result.item; index = seen.index }) f
-      (own_decl seen.index f.name (required rule.N10 f.name.at (not (nat_eq seen.functions s.most.functions)) s))
+    (own_decl seen.index f.name (required rule.N10 f.name.at (not (nat_eq seen.functions s.most.functions)) s))
 
 abbrev pub class_by : DeclsSeen → ClassTree → Option ClassInfo → State → State
 class_by seen k None s = s
@@ -98,7 +98,7 @@ class_by seen k (Some info) s = class (record { class = Some (record { 0 = seen.
 abbrev pub class_decl : DeclsSeen → ClassTree → State → State
 class_decl seen k s =
     class_by seen k (class_at s.declared (record { 0 = seen.classes }))
-      (own_decl seen.index k.name (required rule.N10 k.name.at (not (nat_eq seen.classes s.most.classes)) s))
+    (own_decl seen.index k.name (required rule.N10 k.name.at (not (nat_eq seen.classes s.most.classes)) s))
 
 abbrev pub decl : DeclsSeen → DeclTree → State → State
 decl seen (p.class k) s = class_decl seen k s
@@ -145,7 +145,14 @@ has_main names (x ∷ xs) = if is_main names x then true else has_main names xs
 -- nothing is found yet in a program that has these declarations and is read so
 abbrev pub begun : List (List ℕ) → Mode → ProgramTree → State
 begun names mode q = record {
-  names = names; declared = declared names q; most = most mode; found = []; entries = []; scope = []; locals = 0; returns = 0
+  names = names;
+  declared = declared names q;
+  most = most mode;
+  found = [];
+  entries = [];
+  scope = [];
+  locals = 0;
+  returns = 0;
 }
 
 -- what is found in a program

@@ -141,11 +141,12 @@ member_found s holder name = member_named s.declared holder name.item.0
 
 abbrev pub member_by : Context → Place → Placed NameId → ClassId → Option (ClassId × MemberInfo) → State → State × Option ValueType
 member_by c at name holder None s = (noted None meaning.Other (required rule.N1 name.at false s), None)
-member_by c at name holder (Some m) s =
-    (noted (value_of (member_value s c.class holder m)) (meaning.Member m.0 name.item)
+member_by c at name holder (Some m) s = (
+  noted (value_of (member_value s c.class holder m)) (meaning.Member m.0 name.item)
       (required rule.N3 at (is_value (member_value s c.class holder m))
-        (required rule.N6 name.at (is_accessible s.declared m.1.access c.class holder m.0) s)),
-     value_of (member_value s c.class holder m))
+      (required rule.N6 name.at (is_accessible s.declared m.1.access c.class holder m.0) s)),
+  value_of (member_value s c.class holder m),
+)
 
 -- a function of a thread or mutex stands as a statement alone, and is called
 abbrev pub no_value : Place → Placed NameId → Bool → State → State × Option ValueType

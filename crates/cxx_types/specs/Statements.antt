@@ -134,15 +134,15 @@ abbrev pub started : Context → Place → Ref → ExprTrees → Option Signatur
 started c at r arguments None s = (exprs c [] true arguments (noted None meaning.Other (required rule.N1 r.name.at false s))).0
 started c at r arguments (Some f) s =
     (exprs c f.params true arguments
-      (noted (result_type s.declared f.result) (meaning.Function f.id)
-        (required rule.N4 r.name.at (counts (count arguments) f.params)
-          (required rule.N3 r.node.at (is_void f.result)
-            (required rule.N8 at (not f.is_main) s))))).0
+    (noted (result_type s.declared f.result) (meaning.Function f.id)
+    (required rule.N4 r.name.at (counts (count arguments) f.params)
+    (required rule.N3 r.node.at (is_void f.result)
+    (required rule.N8 at (not f.is_main) s))))).0
 
 unfoldable pub thread : Context → Bool → ThreadTree → State → State
 thread c outermost k s =
     local_declared c k.name thing.Thread
-      (started c k.at k.function k.arguments (function_started k.function s) (required rule.N8 k.at outermost s))
+    (started c k.at k.function k.arguments (function_started k.function s) (required rule.N8 k.at outermost s))
 
 -- ---- all statements
 

@@ -34,7 +34,7 @@ then_by a b otherwise = if nat_lt a b then true else (if nat_lt b a then false e
 abbrev pub is_before : Refusal → Refusal → Bool
 is_before a b =
     then_by a.place.file b.place.file
-      (then_by a.place.line b.place.line (then_by a.place.column b.place.column (nat_lt (rank a.rule) (rank b.rule))))
+    (then_by a.place.line b.place.line (then_by a.place.column b.place.column (nat_lt (rank a.rule) (rank b.rule))))
 
 abbrev pub nearer : Option Refusal → Refusal → Option Refusal
 nearer None other = Some other

@@ -38,14 +38,14 @@ impl<'a> Model for Checker<'a> {
     ghost Value = { State };
 
     ghost view = { λ c. record {
-        names = c.names.now;
-        declared = c.declared.now;
-        most = c.most;
-        found = c.found;
-        entries = c.entries;
-        scope = c.scope;
-        locals = c.locals;
-        returns = c.returns
+      names = c.names.now;
+      declared = c.declared.now;
+      most = c.most;
+      found = c.found;
+      entries = c.entries;
+      scope = c.scope;
+      locals = c.locals;
+      returns = c.returns;
     } };
 }
 

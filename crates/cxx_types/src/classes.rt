@@ -157,11 +157,7 @@ impl<'a> Checker<'a> {
     }
 
     #[tactic(auto, unfolding(crate::specs::Classes::function))]
-    pub(crate) fn function(
-        &mut self,
-        context: Context,
-        function: &Function,
-    ) -> Result<(), Memory>
+    pub(crate) fn function(&mut self, context: Context, function: &Function) -> Result<(), Memory>
         ensures { OnOk result (self.new ≡ spec.function context (function_tree function.now) self.old) }
     {
         self.result_type(function.result)?;
@@ -171,12 +167,7 @@ impl<'a> Checker<'a> {
         Ok(())
     }
 
-    fn base_init(
-        &mut self,
-        context: Context,
-        class: &ClassInfo,
-        init: &Init,
-    ) -> Result<(), Memory>
+    fn base_init(&mut self, context: Context, class: &ClassInfo, init: &Init) -> Result<(), Memory>
         ensures { OnOk result (self.new ≡ spec.base_init context class.now (init_tree init.now) self.old) }
     {
         let arguments = init.arguments.as_slice();
@@ -439,8 +430,8 @@ impl<'a> Checker<'a> {
         ensures { OnOk result (self.new ≡ spec.head base class.now self.old) }
     {
         let declared = self.declared;
-        let is_right =
-            is_derivable(base_ctor(declared, class)) && is_derivable(base_dtor(declared, class));
+        let is_right = is_derivable(base_ctor(declared, class))
+            && is_derivable(base_dtor(declared, class));
         self.base_is_known(base, class)?;
         self.require(Rule::N6, class.name.at, is_right)?;
         let has_room = class.ancestors != TOO_MANY_ANCESTORS;

@@ -136,10 +136,7 @@ pub(crate) fn takes(
 
 const TRUTH: ValueType = ValueType::Number(NumKind::Bool);
 
-fn number_type(
-    left: Option<ValueType>,
-    right: Option<ValueType>,
-) -> Option<(NumKind, NumKind)>
+fn number_type(left: Option<ValueType>, right: Option<ValueType>) -> Option<(NumKind, NumKind)>
     ensures { result ≡ spec.number_kinds left right }
 {
     match (left, right) {

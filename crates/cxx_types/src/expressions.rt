@@ -78,11 +78,7 @@ impl<'a> Checker<'a> {
 
     /// What may stand on the left of an assignment, as a value.
     #[tactic(auto, unfolding(crate::specs::Expressions::left))]
-    pub(crate) fn left(
-        &mut self,
-        context: Context,
-        left: Left,
-    ) -> Result<Option<ValueType>, Memory>
+    pub(crate) fn left(&mut self, context: Context, left: Left) -> Result<Option<ValueType>, Memory>
         ensures { IfOk result (λ t. (self.new, t) ≡ spec.left context left self.old) }
     {
         match left {

@@ -12,9 +12,7 @@ use crate::locals::following;
 use crate::selections::value_of;
 use agxx_base::{ClassId, Memory, Names, NumKind, Rule};
 use cxx_names::{ValueType, is_text};
-use cxx_tree::{
-    Class, Const, Decl, Function, Global, Name, Object, Placed, TypeName, Variable,
-};
+use cxx_tree::{Class, Const, Decl, Function, Global, Name, Object, Placed, TypeName, Variable};
 
 /// What was seen of the declarations of a program.
 #[derive(Clone, Copy)]

@@ -144,12 +144,7 @@ impl<'a> Checker<'a> {
     }
 
     #[tactic(auto, unfolding(crate::specs::Statements::returned))]
-    fn returned(
-        &mut self,
-        context: Context,
-        at: Place,
-        value: Option<&Expr>,
-    ) -> Result<(), Memory>
+    fn returned(&mut self, context: Context, at: Place, value: Option<&Expr>) -> Result<(), Memory>
         ensures { OnOk result (self.new ≡ spec.returned context at (option_map (λ e. expr_tree e.now) value.entry) self.old) }
     {
         match value {
@@ -257,16 +252,16 @@ impl<'a> Checker<'a> {
     }
 
     #[tactic(auto, unfolding(crate::specs::Statements::thread))]
-    fn thread(
-        &mut self,
-        context: Context,
-        outermost: bool,
-        thread: &Thread,
-    ) -> Result<(), Memory>
+    fn thread(&mut self, context: Context, outermost: bool, thread: &Thread) -> Result<(), Memory>
         ensures { OnOk result (self.new ≡ spec.thread context outermost (thread_tree thread.now) self.old) }
     {
         self.require(Rule::N8, thread.at, outermost)?;
-        self.started(context, thread.at, thread.function, thread.arguments.as_slice())?;
+        self.started(
+            context,
+            thread.at,
+            thread.function,
+            thread.arguments.as_slice(),
+        )?;
         self.local_declared(context, thread.name, Thing::Thread)
     }
 

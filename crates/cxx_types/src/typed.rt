@@ -15,9 +15,7 @@ use crate::entry::Meaning;
 use crate::limits::most;
 use crate::programs::has_main;
 use crate::refusals::least;
-use agxx_base::{
-    ClassId, Fault, ListOf, Memory, Mode, NameId, Names, NodeId, Refusal, Rule, Text,
-};
+use agxx_base::{ClassId, Fault, ListOf, Memory, Mode, NameId, Names, NodeId, Refusal, Rule, Text};
 use cxx_distinct::name_past;
 use cxx_layout::{ClassList, Layout, Layouts};
 use cxx_names::{Declared, Table};
@@ -106,12 +104,7 @@ fn add_names(
 /// The names and types of a normal program, or the rule that it violates and where: of several the first, by place and
 /// then by rule. Names have the texts that `names` tells.
 #[tactic(auto, using(crate::proofs::Leasts::none_is_least))]
-pub fn check(
-    alloc: Global,
-    names: &Names,
-    program: Program,
-    mode: Mode,
-) -> Result<Typed, Fault>
+pub fn check(alloc: Global, names: &Names, program: Program, mode: Mode) -> Result<Typed, Fault>
     ensures typed { IfOk result (λ typed. IsTypedOf names.now mode (program_tree program) typed) }
     ensures refused { IfErr result (IsChecked names.now mode (program_tree program)) }
 {
