@@ -6,6 +6,8 @@ use std::alloc::Global;
 use std::process::Abort;
 use std::test::Fail;
 
+mod names;
+
 const SUM: &[u8] = b"int main(){ std::cout << 2+3 << \"\\n\"; return 0; }";
 
 /// A name of 256 bytes.
@@ -73,14 +75,15 @@ fn a_main_of_prints_is_run(rt: HostRuntime) -> Result<(), Fail> {
 fn other_programs_are_refused(rt: HostRuntime) -> Result<(), Fail> {
     let exec = [b"exec".as_slice(), b"a.cc"];
     let unbuilt = b"a.cc:1:1: U1: form not built\n".as_slice();
+    let no_main = b"a.cc:1:1: N9: no function int main()\n".as_slice();
     for (text, line) in [
         (b"int main(){ return 1; }".as_slice(), unbuilt),
-        (b"", unbuilt),
+        (b"", no_main),
         (b"int main() { std::cout << 0x10; return 0; }", unbuilt),
         (b"int main() { std::cout << 10000; return 0; }", unbuilt),
-        (b"class C { std::mutex m; }; C c;", unbuilt),
+        (b"class C { std::mutex m; }; C c;", no_main),
         (b"int main() { return 0; } int x;", unbuilt),
-        (b"int __x;", unbuilt),
+        (b"int __x;", no_main),
         (b"int x = 012;", b"a.cc:1:10: L1: unexpected byte\n"),
         (
             b"int x =\n 18446744073709551616u;",
