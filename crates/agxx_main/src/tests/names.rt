@@ -10,6 +10,7 @@ use std::test::Fail;
 mod access;
 mod addresses;
 mod counts;
+mod examples;
 mod limits;
 mod lookup;
 mod order;

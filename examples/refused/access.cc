@@ -1,0 +1,5 @@
+class Door {
+    int opened;
+};
+Door front;
+int main() { return front.opened; }

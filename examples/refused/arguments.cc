@@ -1,0 +1,6 @@
+class Door {
+public:
+    Door(int width) { }
+};
+Door front;
+int main() { return 0; }

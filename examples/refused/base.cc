@@ -1,0 +1,3 @@
+class Gate : public Door { };
+class Door { };
+int main() { return 0; }

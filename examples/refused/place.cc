@@ -1,0 +1,5 @@
+class Door {
+public:
+    Door() { return; }
+};
+int main() { return 0; }

@@ -1,0 +1,3 @@
+class Door { };
+Door* front = 0;
+int main() { return 0; }

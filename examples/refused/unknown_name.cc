@@ -1,0 +1,6 @@
+class Door {
+    int opened;
+public:
+    int count() { return opens; }
+};
+int main() { return 0; }
