@@ -7,17 +7,8 @@ use std::alloc::Global;
 use std::process::Abort;
 use std::test::Fail;
 
-mod access;
-mod addresses;
-mod counts;
 mod examples;
-mod limits;
-mod lookup;
 mod order;
-mod places;
-mod twice;
-mod types;
-mod values;
 
 /// Calls `exec` on each text, which is refused with its line.
 fn expect_lines(rt: &impl Abort, alloc: Global, cases: &[(&[u8], &[u8])]) -> Result<(), Fail> {
