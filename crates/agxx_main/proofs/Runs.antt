@@ -16,12 +16,14 @@ use Rattle.cxx_parse.specs.Numbering.{dialect_in, words_in}
 use Rattle.cxx_parse.specs.Parsed.{IsParsed, IsReadAs}
 use Rattle.cxx_expr.specs.Outcome.{Outcome, done}
 use Rattle.cxx_expr.specs.Tokens.{Tokens}
+use Rattle.cxx_normal.specs.Normal.{with_main, normal_among}
+use Rattle.cxx_types.specs.Violations.{refusal_of}
 use Rattle.first_form.specs.FirstForm.{Statement, IsFirstForm, printed}
 use Rattle.cxx_lex.proofs.Readings.{one_reading, one_refusal, never_both}
 use Rattle.cxx_parse.proofs.Decided.{parsed-or-refused, never-both, alike, rule-of}
 use Rattle.first_form.proofs.Forms.{form-decided, form-unique}
 use Rattle.agxx_main.specs.declared.answer.Answer.{Answer}
-use Rattle.agxx_main.specs.Answers.{refused, ended, at_beginning, names_in, violation_in, IsProgramIn, HasProgram, IsRefusalIn, IsRunOf, too_large, no_tokens, no_program, violates, runs, unbuilt}
+use Rattle.agxx_main.specs.Answers.{refused, ended, at_beginning, names_in, normal_names, violation_in, IsProgramIn, HasProgram, IsRefusalIn, IsRunOf, too_large, no_tokens, no_program, violates, runs, unbuilt}
 use Rattle.agxx_main.specs.Laws.{IsGrammarRule, IsAlike, same, deep}
 
 -- what holds of a result where another thing does
@@ -53,6 +55,13 @@ large-unbuilt file text tokens end answer small large t (q, p, v) e = unbuilt to
 pub form-unbuilt : (file text : List ℕ) (tokens : List Token) (end : Place) (answer : Answer) → length text ≤ 16777216 → HasTokens Woven 0 text tokens end
     → HasProgram tokens end → ((statements : List Statement) → IsFirstForm tokens statements → ⊥) → answer ≡ refused file (at_beginning U1) → IsRunOf file text answer
 form-unbuilt file text tokens end answer small t (q, p, v) n e = unbuilt tokens end q small t p v (λ statements f s. n statements f) e
+
+-- what is told of a program is what is told of its normal form
+pub violation-is : (tokens : List Token) (program q : ProgramTree) (names old : List (List ℕ)) (v : Option Refusal) → names ≡ with_main old → old ≡ names_in tokens → q ≡ normal_among names program
+    → refusal_of names Woven q ≡ v → violation_in tokens program ≡ v
+violation-is tokens program q names old v n o e h =
+    let m : names ≡ normal_names tokens = n ∙ ap with_main o in
+    sym (ap (λ x. refusal_of x Woven (normal_among x program)) m) ∙ (sym (ap (refusal_of names Woven) e) ∙ h)
 
 -- ---- each file has an answer
 

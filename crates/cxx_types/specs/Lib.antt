@@ -13,3 +13,4 @@ pub mod Classes
 pub mod Programs
 pub mod Violations
 pub mod Typing
+pub mod Laws

@@ -4,15 +4,19 @@ use Rattle.cxx_lex.specs.All.{IfRefused}
 use Rattle.cxx_lex.specs.TokList.{tokens_of}
 use Rattle.cxx_tree.specs.ProgramTree.{program_tree}
 use Rattle.cxx_parse.specs.Numbering.{names_of}
-use Rattle.cxx_parse.specs.Parsed.{IsParsed, IsRefused}
+use Rattle.cxx_parse.specs.Parsed.{IsParsed, IsReadAs, IsRefused}
 use Rattle.agxx_main.specs.Answers.{names_in, IsRefusalIn, no_program}
 use Rattle.agxx_main.proofs.Runs.{if-ok}
 use Rattle.agxx_main.proofs.exec.parse.Goals as goal
 
-pub run-requires-clause-program : goal.run-requires-clause-program
-run-requires-clause-program c =
+pub check_program-requires-clause-names : goal.check_program-requires-clause-names
+check_program-requires-clause-names c = c.in-Ok.ensures.names ∙ ap (λ q. names_of q (tokens_of c.args.toks.now.items)) c.new-names.ensures
+
+pub check_program-requires-clause-program : goal.check_program-requires-clause-program
+check_program-requires-clause-program c =
     let n : c.parse_program.new.names ≡ names_in (tokens_of c.args.toks.now.items) = c.in-Ok.ensures.names ∙ ap (λ q. names_of q (tokens_of c.args.toks.now.items)) c.new-names.ensures in
-    (program_tree c.in-Ok.field-0, subst (λ q. IsParsed Woven q (tokens_of c.args.toks.now.items) c.args.toks.now.end (program_tree c.in-Ok.field-0)) n c.in-Ok.ensures.parsed)
+    (subst (λ q. IsParsed Woven q (tokens_of c.args.toks.now.items) c.args.toks.now.end (program_tree c.in-Ok.program)) n c.in-Ok.ensures.parsed,
+     subst (λ q. IsReadAs Woven q (tokens_of c.args.toks.now.items) c.args.toks.now.end (program_tree c.in-Ok.program)) n c.in-Ok.ensures.read)
 
 pub returns-in-Err-Refused : goal.returns-in-Err-Refused
 returns-in-Err-Refused c =
