@@ -31,14 +31,14 @@ before-irreflexive a =
 before-asymmetric : (a b : Refusal) → is_before a b ≡ true → is_before b a ≡ false
 before-asymmetric a b =
     then-asymmetric a.place.file b.place.file _ _
-      (then-asymmetric a.place.line b.place.line _ _ (then-asymmetric a.place.column b.place.column _ _ (lt-asymmetric (rank a.rule) (rank b.rule))))
+    (then-asymmetric a.place.line b.place.line _ _ (then-asymmetric a.place.column b.place.column _ _ (lt-asymmetric (rank a.rule) (rank b.rule))))
 
 -- what isn't before one that isn't before another isn't before that
 before-passes : (a b c : Refusal) → is_before a b ≡ false → is_before b c ≡ false → is_before a c ≡ false
 before-passes a b c =
     then-passes a.place.file b.place.file c.place.file _ _ _
-      (then-passes a.place.line b.place.line c.place.line _ _ _
-        (then-passes a.place.column b.place.column c.place.column _ _ _ (lt-passes (rank a.rule) (rank b.rule) (rank c.rule))))
+    (then-passes a.place.line b.place.line c.place.line _ _ _
+    (then-passes a.place.column b.place.column c.place.column _ _ _ (lt-passes (rank a.rule) (rank b.rule) (rank c.rule))))
 
 -- ---- the least
 
@@ -52,7 +52,7 @@ first-behind : (one r : Refusal) (rs : List Refusal) (l : Refusal) → is_before
 first-behind one r rs l before f = record {
   among = inr f.among;
   own = before-passes one r l (before-asymmetric r one before) f.own;
-  rest = either
+  rest = either;
 }
   where
     either : (x : Refusal) → IsAmong x (r ∷ rs) → is_before x l ≡ false
@@ -67,7 +67,7 @@ first-kept : (one r : Refusal) (rs : List Refusal) (l : Refusal) → is_before r
 first-kept one r rs l after f = record {
   among = further one r rs l f.among;
   own = f.own;
-  rest = either
+  rest = either;
 }
   where
     either : (x : Refusal) → IsAmong x (r ∷ rs) → is_before x l ≡ false

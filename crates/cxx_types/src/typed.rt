@@ -1,11 +1,11 @@
 //! Programs that violate no rule, and what is known of them.
 
-ghost use Rattle.std.specs.Prelude.{◌≡◌, ◌++◌, Some, IfOk, IfErr, IsSome, OnOk};
+ghost use Rattle.std.specs.Prelude.{◌≡◌, ◌++◌, Some, IfOk, IfErr, IsSome, OnOk, MatchResult};
 ghost use Rattle.cxx_tree.specs.ProgramTree.{program_tree};
 ghost use Rattle.cxx_names.specs.Declarations as declarations;
 ghost use Rattle.cxx_names.specs.LookUp as look_up;
 ghost use Rattle.cxx_types.specs.Programs.{checked};
-ghost use Rattle.cxx_types.specs.Violations.{too_many_names};
+ghost use Rattle.cxx_types.specs.Violations.{refusal_of, too_many_names};
 ghost use Rattle.cxx_types.specs.Typing as spec;
 ghost use Rattle.cxx_types.specs.Typing.{IsTypedOf, IsChecked};
 
@@ -51,6 +51,7 @@ fn copied(alloc: Global, names: &Names) -> Result<ListOf<Text>, Memory>
 }
 
 /// Goes through the declarations of a program.
+#[tactic(auto, unfolding(crate::specs::Programs::checked))]
 fn go_through(
     alloc: Global,
     names: &Names,
@@ -101,12 +102,15 @@ fn add_names(
     Ok(())
 }
 
-/// The names and types of a normal program, or the rule that it violates and where: of several the first, by place and
-/// then by rule. Names have the texts that `names` tells.
+/// The names and types of a program, or the least violation.
 #[tactic(auto, using(crate::proofs::Leasts::none_is_least))]
-pub fn check(alloc: Global, names: &Names, program: Program, mode: Mode) -> Result<Typed, Fault>
-    ensures typed { IfOk result (λ typed. IsTypedOf names.now mode (program_tree program) typed) }
-    ensures refused { IfErr result (IsChecked names.now mode (program_tree program)) }
+fn judged(
+    alloc: Global,
+    names: &Names,
+    program: Program,
+    mode: Mode,
+) -> Result<Result<Typed, Refusal>, Memory>
+    ensures { IfOk result (λ judged. MatchResult judged (IsTypedOf names.now mode (program_tree program)) (λ refusal. refusal_of names.now mode (program_tree program) ≡ Some refusal)) }
 {
     let declared = Declared::of(alloc, names, &program)?;
     let Findings {
@@ -114,19 +118,30 @@ pub fn check(alloc: Global, names: &Names, program: Program, mode: Mode) -> Resu
         entries,
     } = go_through(alloc, names, &declared, &program, mode)?;
     add_names(alloc, &mut violations, &program, mode)?;
-    match least(violations.as_slice()) {
-        Some(refusal) => Err(Fault::Refused(refusal)),
-        None => {
-            let layouts = Layouts::of(alloc, names, &declared)?;
-            let texts = copied(alloc, names)?;
-            Ok(Typed {
-                program,
-                texts,
-                declared,
-                entries,
-                layouts,
-            })
-        }
+    if let Some(refusal) = least(violations.as_slice()) {
+        return Ok(Err(refusal));
+    }
+    let layouts = Layouts::of(alloc, names, &declared)?;
+    let texts = copied(alloc, names)?;
+    Ok(Ok(Typed {
+        program,
+        texts,
+        declared,
+        entries,
+        layouts,
+    }))
+}
+
+/// The names and types of a normal program, or the rule that it violates and where: of several the first, by place and
+/// then by rule. Names have the texts that `names` tells.
+pub fn check(alloc: Global, names: &Names, program: Program, mode: Mode) -> Result<Typed, Fault>
+    ensures typed { IfOk result (λ typed. IsTypedOf names.now mode (program_tree program) typed) }
+    ensures refused { IfErr result (λ fault. IsChecked names.now mode (program_tree program) fault) }
+{
+    match judged(alloc, names, program, mode) {
+        Ok(Ok(typed)) => Ok(typed),
+        Ok(Err(refusal)) => Err(Fault::Refused(refusal)),
+        Err(Memory) => Err(Fault::Memory),
     }
 }
 
