@@ -14,9 +14,10 @@ check_program-requires-clause-names c = c.in-Ok.ensures.names ∙ ap (λ q. name
 
 pub check_program-requires-clause-program : goal.check_program-requires-clause-program
 check_program-requires-clause-program c =
-    let n : c.parse_program.new.names ≡ names_in (tokens_of c.args.toks.now.items) = c.in-Ok.ensures.names ∙ ap (λ q. names_of q (tokens_of c.args.toks.now.items)) c.new-names.ensures in
-    (subst (λ q. IsParsed Woven q (tokens_of c.args.toks.now.items) c.args.toks.now.end (program_tree c.in-Ok.program)) n c.in-Ok.ensures.parsed,
-     subst (λ q. IsReadAs Woven q (tokens_of c.args.toks.now.items) c.args.toks.now.end (program_tree c.in-Ok.program)) n c.in-Ok.ensures.read)
+    let n : c.parse_program.new.names ≡ names_in (tokens_of c.args.toks.now.items) = c.in-Ok.ensures.names ∙ ap (λ q. names_of q (tokens_of c.args.toks.now.items)) c.new-names.ensures in (
+      subst (λ q. IsParsed Woven q (tokens_of c.args.toks.now.items) c.args.toks.now.end (program_tree c.in-Ok.program)) n c.in-Ok.ensures.parsed,
+      subst (λ q. IsReadAs Woven q (tokens_of c.args.toks.now.items) c.args.toks.now.end (program_tree c.in-Ok.program)) n c.in-Ok.ensures.read,
+    )
 
 pub returns-in-Err-Refused : goal.returns-in-Err-Refused
 returns-in-Err-Refused c =
