@@ -1,0 +1,10 @@
+//! The machine that runs programs, step by step. What it does is defined in `specs`: `Act` says what an item does,
+//! `Machine` what a turn of a thread does, `Runs` what a run by a list of turns comes to.
+#![tactic(auto)]
+
+mod datum;
+mod laws;
+mod outcome;
+
+pub use datum::Datum;
+pub use outcome::{State, StepKind, Stop};
