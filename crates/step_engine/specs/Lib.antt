@@ -16,3 +16,4 @@ pub mod Inserted
 pub mod Machine
 pub mod Start
 pub mod Runs
+pub mod Examples

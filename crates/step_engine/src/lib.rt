@@ -7,4 +7,5 @@ mod laws;
 mod outcome;
 
 pub use datum::Datum;
+pub use laws::examples_run;
 pub use outcome::{State, StepKind, Stop};
