@@ -1,1 +1,3 @@
 mod Examples
+pub mod Same
+pub mod Objects

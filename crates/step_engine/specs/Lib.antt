@@ -17,3 +17,5 @@ pub mod Machine
 pub mod Start
 pub mod Runs
 pub mod Examples
+pub mod Total
+pub mod Bridge

@@ -12,7 +12,7 @@ use Rattle.step_engine.specs.Effects as on
 use Rattle.step_engine.specs.Effects.{Did, did, Turn}
 use Rattle.step_engine.specs.Reads.{Reads}
 use Rattle.step_engine.specs.Act.{act}
-use Rattle.step_engine.specs.Turn.{Thread, Threads, Settled, settled}
+use Rattle.step_engine.specs.Turn.{thread_at, has_ended, Thread, Threads, Settled, settled}
 use Rattle.step_engine.specs.World.{World, word_at, class_at, variable_at, holder_at, changed}
 use Rattle.step_engine.specs.Inserted.{is_inserted}
 
@@ -45,15 +45,6 @@ taken_off t ths = off_at t ths (slice_get ths t)
 
 -- ---- what is read is the rest
 
-abbrev pub is_over : Option Thread → Bool
-is_over None = true
-is_over (Some []) = true
-is_over (Some (f ∷ fs)) = false
-
-abbrev pub depth_at : Setting → Option Thread → ℕ
-depth_at s None = 0
-depth_at s (Some fs) = depth_of s fs
-
 -- by thread t, whose running frame is off
 abbrev pub reads_of : Setting → World → ℕ → Threads → Reads
 reads_of s world t ths = record {
@@ -63,9 +54,9 @@ reads_of s world t ths = record {
   holder = holder_at world;
   made = length world.objects;
   started = length ths;
-  has_ended = λ u. is_over (slice_get ths u);
+  has_ended = λ u. has_ended (thread_at ths u);
   is_busy = λ o. any_on s o ths;
-  depth = depth_at s (slice_get ths t);
+  depth = depth_of s (thread_at ths t);
   printed = length world.output;
 }
 

@@ -1,5 +1,5 @@
 -- A thread after an effect: its frames, and what the turn is to the others.
-use Rattle.std.specs.Prelude.{List, [], ◌∷◌, Option, Some, None}
+use Rattle.std.specs.Prelude.{ℕ, Bool, true, false, slice_get, List, [], ◌∷◌, Option, Some, None}
 use Rattle.step_engine.specs.declared.datum.Datum.{Datum}
 use Rattle.step_engine.specs.Item.{Item}
 use Rattle.step_engine.specs.Frame.{Frame, pushed}
@@ -15,6 +15,18 @@ Threads = List Thread
 
 abbrev pub Settled : Type 0
 Settled = Thread × Turn
+
+-- the frames of a thread by its number; one that was not made has none
+abbrev pub frames_of : Option Thread → Thread
+frames_of None = []
+frames_of (Some fs) = fs
+
+abbrev pub thread_at : Threads → ℕ → Thread
+thread_at ths t = frames_of (slice_get ths t)
+
+abbrev pub has_ended : Thread → Bool
+has_ended [] = true
+has_ended (f ∷ fs) = false
 
 -- the caller gets the value
 abbrev pub handed : Option Datum → Thread → Thread

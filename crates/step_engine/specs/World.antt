@@ -56,13 +56,13 @@ holder_in (Some holder) = holder
 
 abbrev pub holder_by : Option Object → ℕ → Option ℕ
 holder_by None m = None
-holder_by (Some o) m = holder_in (entry o.holders m)
+holder_by (Some o) m = if o.live then holder_in (entry o.holders m) else None
 
 abbrev pub holder_at : World → Lock → Option ℕ
 holder_at world (on.shared name) = holder_in (entry world.holders name)
 holder_at world (on.inside o m) = holder_by (slice_get world.objects o) m
 
--- ---- changes; where there is no such thing, nothing changes
+-- ---- changes; where there is no such live object, nothing changes
 
 abbrev pub new_object : ClassId → ℕ → Object
 new_object class words = record { class = class; live = true; words = replicate words 0; holders = [] }
@@ -78,7 +78,7 @@ killed o = record o { live = false }
 
 abbrev pub object_changed_by : Option Object → ℕ → (Object → Object) → List Object → List Object
 object_changed_by None o change objects = objects
-object_changed_by (Some found) o change objects = slice_set objects o (change found)
+object_changed_by (Some found) o change objects = if found.live then slice_set objects o (change found) else objects
 
 abbrev pub object_changed : ℕ → (Object → Object) → World → World
 object_changed o change world =
