@@ -1,3 +1,5 @@
 mod Examples
 pub mod Same
 pub mod Objects
+pub mod Bridge
+pub mod Turns

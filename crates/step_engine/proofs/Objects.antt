@@ -134,15 +134,15 @@ holder-if : (b : Bool) (h old : Option (Option ℕ)) → holder_in (if b then h 
 holder-if true h old = refl
 holder-if false h old = refl
 
-pub holder-set : (m k : ℕ) (h : Option ℕ) (b : Bool) (x : Option Object) (class : ClassId) → class_by x ≡ Some class
+pub holder-set : (m k : ℕ) (h : Option ℕ) (b : Bool) (x : Option Object) (class : ClassId) → (b ≡ true → class_by x ≡ Some class)
     → holder_by (object_then (with_holder m h) b x) k ≡ (if b && same k m then h else holder_by x k)
 holder-set m k h false x class e = refl
-holder-set m k h true None class e = cc
+holder-set m k h true None class e = cc (e refl)
 holder-set m k h true (Some x) class e = go x.live refl
   where
     go : (l : Bool) → x.live ≡ l → holder_by (Some (changed_if l (with_holder m h) x)) k ≡ (if same k m then h else holder_by (Some x) k)
     go true q = rw q (ap holder_in (entry-with x.holders m h k) ∙ holder-if (same k m) (Some h) (entry x.holders k))
-    go false q = cc (e, dead-class x q)
+    go false q = cc (e refl, dead-class x q)
 
 -- where there is no such live object, nothing changes
 pub holder-unset : (m k : ℕ) (h : Option ℕ) (b : Bool) (x : Option Object) → (b ≡ true → class_by x ≡ None) → holder_by (object_then (with_holder m h) b x) k ≡ holder_by x k

@@ -1,8 +1,14 @@
 //! Laws of the machine.
 
+ghost use Rattle.step_engine.specs.Bridge.{ListsAndFunctionsAgree};
 ghost use Rattle.step_engine.specs.Examples.{ExamplesRun};
 
 /// The examples take as many steps as are counted by hand, print what they print and come to what they come to.
 pub fn examples_run()
     ensures { ExamplesRun }
+{}
+
+/// A turn does the same on the state as lists and on the state as functions.
+pub fn lists_and_functions_agree()
+    ensures { ListsAndFunctionsAgree }
 {}
