@@ -33,7 +33,7 @@ put-told m t fs old e = λ i. record (reading m) {
   frames = λ q. put-is m.threads t q fs old e i;
 }
 
-there : (ths : Threads) (t : ℕ) (fs old : Thread) → slice_get ths t ≡ Some old → slice_get (slice_set ths t fs) t ≡ Some fs
+pub there : (ths : Threads) (t : ℕ) (fs old : Thread) → slice_get ths t ≡ Some old → slice_get (slice_set ths t fs) t ≡ Some fs
 there ths t fs old e = get-set ths t t fs old e ∙ ap (λ b. if b then Some fs else slice_get ths t) (same-self t)
 
 twice : (b : Bool) (x y z : Thread) → (if b then x else (if b then y else z)) ≡ (if b then x else z)

@@ -12,7 +12,7 @@ use Rattle.step_engine.specs.Item as it
 use Rattle.step_engine.specs.Item.{Ending, exprs_on}
 use Rattle.step_engine.specs.Frame.{Frame, Binding, pushed, popped, top, arguments, frame_of, ending_by, is_on, depth_with}
 use Rattle.step_engine.specs.Effects as on
-use Rattle.step_engine.specs.Effects.{Effect, Act, goes, stops, stays}
+use Rattle.step_engine.specs.Effects.{Deed, Act, goes, stops, stays}
 use Rattle.step_engine.specs.Reads.{Reads}
 
 -- how many counted frames a thread may have
@@ -28,9 +28,9 @@ module _ (s : Setting) (r : Reads) where
   abbrev pub has_room : ℕ → Frame → Bool
   has_room g f = is_generated s (Some g) || nat_lt (depth_with s f r.depth) depth_limit
 
-  -- where a frame of a function has room it comes by the effect
-  abbrev pub entering : ℕ → Place → Frame → Effect → Act
-  entering g at f effect = if has_room g f then goes f effect else stops stop.Depth at
+  -- where a frame of a function has room it is entered
+  abbrev pub entering : ℕ → Place → Frame → Deed → Act
+  entering g at f deed = if has_room g f then goes f deed else stops stop.Depth at
 
   abbrev pub after_arguments : Binding → Frame → Frame
   after_arguments b f = record f { values = b.0 }

@@ -23,19 +23,23 @@ pub data Change : Type 0 where
   take : Lock → Change
   free : Lock → Change
 
-pub data Effect : Type 0 where
-  stay : Effect
-  change : Change → Effect
-  enter : Frame → Effect
+-- of an item that neither stops nor waits
+pub data Deed : Type 0 where
+  stay : Deed
+  change : Change → Deed
+  enter : Frame → Deed
   -- a new object's constructor
-  create_entering : ClassId → ℕ → Frame → Effect
+  create_entering : ClassId → ℕ → Frame → Deed
   -- the frame is left, with its value if it has one
-  back : Option Datum → Effect
+  back : Option Datum → Deed
   -- the frame is left and its object destroyed
-  back_killing : ℕ → Effect
-  start : Frame → Effect
-  end : ℤ → Effect
-  halt : Option ℕ → Option ClassId → Effect
+  back_killing : ℕ → Deed
+  start : Frame → Deed
+  end : ℤ → Deed
+  halt : Option ℕ → Option ClassId → Deed
+
+pub data Effect : Type 0 where
+  does : Deed → Effect
   stop : Stop → Place → Effect
   wait : Effect
 
@@ -55,13 +59,13 @@ abbrev pub Did : Type 0
 Did = Frame × Effect
 
 pub data Act : Type 0 where
-  goes : Frame → Effect → Act
+  goes : Frame → Deed → Act
   stops : Stop → Place → Act
   waits : Act
 
 -- a stop and a wait change nothing
 abbrev pub did : Frame → Act → Did
-did f (goes g e) = (g, e)
+did f (goes g d) = (g, does d)
 did f (stops cause at) = (f, stop cause at)
 did f waits = (f, wait)
 

@@ -19,3 +19,4 @@ pub mod Runs
 pub mod Examples
 pub mod Total
 pub mod Bridge
+pub mod Laws

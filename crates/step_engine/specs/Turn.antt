@@ -4,7 +4,7 @@ use Rattle.step_engine.specs.declared.datum.Datum.{Datum}
 use Rattle.step_engine.specs.Item.{Item}
 use Rattle.step_engine.specs.Frame.{Frame, pushed}
 use Rattle.step_engine.specs.Effects as on
-use Rattle.step_engine.specs.Effects.{Effect, Turn}
+use Rattle.step_engine.specs.Effects.{Deed, Effect, Turn}
 
 -- the frames of a thread, the one that runs at the head; a thread without frames has ended
 abbrev pub Thread : Type 0
@@ -38,16 +38,20 @@ handed (Some v) (f ∷ fs) = pushed v f ∷ fs
 abbrev pub put_back : Item → Frame → Frame
 put_back i f = record f { items = i ∷ f.items }
 
--- by the effect of an item that was taken off frame f, below which stand the frames fs
+-- where frame f did it, below which stand the frames fs
+abbrev pub done : Thread → Frame → Deed → Settled
+done fs f on.stay = (f ∷ fs, on.went)
+done fs f (on.change c) = (f ∷ fs, on.changed c)
+done fs f (on.enter g) = (g ∷ f ∷ fs, on.went)
+done fs f (on.create_entering class words g) = (g ∷ f ∷ fs, on.changed (on.create class words))
+done fs f (on.back v) = (handed v fs, on.went)
+done fs f (on.back_killing o) = (fs, on.changed (on.kill o))
+done fs f (on.start g) = (f ∷ fs, on.started g)
+done fs f (on.end z) = (f ∷ fs, on.ended z)
+done fs f (on.halt o class) = (f ∷ fs, on.halted o class)
+
+-- by the effect of an item that was taken off frame f
 abbrev pub settled : Item → Thread → Frame → Effect → Settled
-settled i fs f on.stay = (f ∷ fs, on.went)
-settled i fs f (on.change c) = (f ∷ fs, on.changed c)
-settled i fs f (on.enter g) = (g ∷ f ∷ fs, on.went)
-settled i fs f (on.create_entering class words g) = (g ∷ f ∷ fs, on.changed (on.create class words))
-settled i fs f (on.back v) = (handed v fs, on.went)
-settled i fs f (on.back_killing o) = (fs, on.changed (on.kill o))
-settled i fs f (on.start g) = (f ∷ fs, on.started g)
-settled i fs f (on.end z) = (f ∷ fs, on.ended z)
-settled i fs f (on.halt o class) = (f ∷ fs, on.halted o class)
+settled i fs f (on.does d) = done fs f d
 settled i fs f (on.stop cause at) = (put_back i f ∷ fs, on.stopped cause at)
 settled i fs f on.wait = (put_back i f ∷ fs, on.blocked)

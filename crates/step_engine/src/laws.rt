@@ -2,6 +2,7 @@
 
 ghost use Rattle.step_engine.specs.Bridge.{ListsAndFunctionsAgree};
 ghost use Rattle.step_engine.specs.Examples.{ExamplesRun};
+ghost use Rattle.step_engine.specs.Laws.{TurnsThatChangeNothing};
 
 /// The examples take as many steps as are counted by hand, print what they print and come to what they come to.
 pub fn examples_run()
@@ -11,4 +12,10 @@ pub fn examples_run()
 /// A turn does the same on the state as lists and on the state as functions.
 pub fn lists_and_functions_agree()
     ensures { ListsAndFunctionsAgree }
+{}
+
+/// A turn of a thread that has ended or was never made, one that is blocked, and every turn once the run is over, change
+/// nothing. A turn that stops the run changes nothing else.
+pub fn some_turns_change_nothing()
+    ensures { TurnsThatChangeNothing }
 {}

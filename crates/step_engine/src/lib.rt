@@ -7,5 +7,5 @@ mod laws;
 mod outcome;
 
 pub use datum::Datum;
-pub use laws::{examples_run, lists_and_functions_agree};
+pub use laws::{examples_run, lists_and_functions_agree, some_turns_change_nothing};
 pub use outcome::{State, StepKind, Stop};
