@@ -2,6 +2,8 @@
 use Rattle.std.proofs.Common.{refl}
 use Rattle.std.specs.Fmt.{digits}
 use Rattle.step_engine.specs.Examples.{ExamplesRun}
+use Rattle.step_engine.specs.WovenExample.{WovenExampleRuns}
+use Rattle.step_engine.specs.ThreadsExample.{ThreadsExampleRuns}
 
 pub examples : ExamplesRun
 unfolding digits
@@ -10,4 +12,15 @@ examples = record {
   of_overflow = record { state = refl; output = refl; counts = refl };
   of_object = record { state = refl; output = refl; counts = refl };
   of_cell = record { state = refl; output = refl; counts = refl };
+}
+
+pub woven_runs : WovenExampleRuns
+unfolding digits
+woven_runs = record { state = refl; output = refl; counts = refl }
+
+pub threads_run : ThreadsExampleRuns
+unfolding digits
+threads_run = record {
+  of_pair = record { state = refl; output = refl; counts = refl };
+  of_deleted = record { state = refl; output = refl; counts = refl };
 }

@@ -20,3 +20,5 @@ pub mod Examples
 pub mod Total
 pub mod Bridge
 pub mod Laws
+pub mod WovenExample
+pub mod ThreadsExample

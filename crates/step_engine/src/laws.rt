@@ -2,11 +2,15 @@
 
 ghost use Rattle.step_engine.specs.Bridge.{ListsAndFunctionsAgree};
 ghost use Rattle.step_engine.specs.Examples.{ExamplesRun};
+ghost use Rattle.step_engine.specs.WovenExample.{WovenExampleRuns};
+ghost use Rattle.step_engine.specs.ThreadsExample.{ThreadsExampleRuns};
 ghost use Rattle.step_engine.specs.Laws.{TurnsThatChangeNothing};
 
 /// The examples take as many steps as are counted by hand, print what they print and come to what they come to.
 pub fn examples_run()
-    ensures { ExamplesRun }
+    ensures small { ExamplesRun }
+    ensures woven { WovenExampleRuns }
+    ensures threads { ThreadsExampleRuns }
 {}
 
 /// A turn does the same on the state as lists and on the state as functions.

@@ -1,0 +1,147 @@
+-- Programs with threads and with objects of `new`, and what machines make of them.
+use Rattle.std.specs.Prelude.{◌≡◌, ℕ, false, List, [], ◌∷◌, ◌++◌, replicate, None, codes}
+use Rattle.cxx_tree.specs.declared.expr.Base.TheVariants as base_of
+use Rattle.cxx_tree.specs.declared.expr.Callee.TheVariants as callee_of
+use Rattle.cxx_tree.specs.declared.operator.BinOp.TheVariants as op
+use Rattle.cxx_tree.specs.declared.program.Access.TheVariants.{Public}
+use Rattle.cxx_tree.specs.declared.program.ClassWord.TheVariants.{Class}
+use Rattle.cxx_tree.specs.declared.program.TypeName.TheVariants as type_name
+use Rattle.cxx_tree.specs.ExprTree as e
+use Rattle.cxx_tree.specs.StmtTree as s
+use Rattle.cxx_tree.specs.ProgramTree as p
+use Rattle.cxx_core.specs.Examples.{at, node, placed, name, ref, pointer_to, reading, literal, calling, starting_with, in_braces, program_of}
+use Rattle.step_engine.specs.declared.outcome.State.TheVariants as state
+use Rattle.step_engine.specs.declared.outcome.Stop.TheVariants as stop
+use Rattle.step_engine.specs.Item.{line_end}
+use Rattle.step_engine.specs.Setting.{Setting}
+use Rattle.step_engine.specs.Runs.{Ran, run}
+use Rattle.step_engine.specs.Examples.{setting_of, ComesTo, ends, printing, new_line, returning, main_of, word_type, empty_ctor, empty_dtor, object, unsigned_literal}
+use Rattle.step_engine.specs.WovenExample.{function, word, setting_to, between}
+
+-- class Cell {
+--     uint32_t v;
+-- public:
+--     void add(uint32_t x) { v = v + x; }
+--     uint32_t get() { return v; }
+--     Cell() { }
+--     ~Cell() { }
+-- };
+abbrev pub class_cell : p.ClassTree
+class_cell = record {
+  at = at 1;
+  word = Class;
+  name = name 1 0;
+  base = None;
+  items =
+      word 2 1
+      ∷ p.label (at 3) Public
+      ∷ function 4 2 (record { type_name = word_type 4; name = name 4 3 } ∷ [])
+      (setting_to 4 1 (between 4 op.Add (reading 4 1) (reading 4 3)) ∷ [])
+      ∷ p.function (record {
+        result = word_type 5;
+        name = name 5 4;
+        params = [];
+        body = in_braces 5 (returning 5 (reading 5 1) ∷ []);
+      })
+      ∷ empty_ctor 1 0
+      ∷ empty_dtor 1 0
+      ∷ [];
+}
+
+-- the names by their numbers
+abbrev pub names : List (List ℕ)
+names =
+    codes "Cell" ∷ codes "v" ∷ codes "add" ∷ codes "x" ∷ codes "get" ∷ codes "c" ∷ codes "main" ∷ codes "work" ∷ codes "a" ∷ codes "b"
+    ∷ codes "join" ∷ codes "p" ∷ []
+
+abbrev pub one_expr : e.ExprTree → e.ExprTrees
+one_expr only = e.more_exprs only e.no_exprs
+
+-- ---- two threads
+
+-- Cell c;
+-- void work() { c.add(1u); }
+-- int main() {
+--     std::thread a(work);
+--     std::thread b(work);
+--     a.join();
+--     b.join();
+--     std::cout << c.get() << "\n";
+--     return 0;
+-- }
+abbrev pub starting : ℕ → ℕ → s.StmtTree
+starting line t = s.thread (record { at = at line; name = name line t; function = ref false line 7; arguments = e.no_exprs })
+
+abbrev pub joining : ℕ → ℕ → s.StmtTree
+joining line t = calling (base_of.Dot (ref false line t)) line 10 e.no_exprs
+
+abbrev pub work : p.DeclTree
+work = p.free_function (record {
+  result = placed 10 type_name.Void;
+  name = name 10 7;
+  params = [];
+  body = in_braces 10 (calling (base_of.Dot (ref false 10 5)) 10 2 (one_expr (unsigned_literal 10 1)) ∷ []);
+})
+
+-- `c.get()`
+abbrev pub get_call : ℕ → e.ExprTree
+get_call line = e.call (e.calls (node line) (callee_of.Member (record { base = base_of.Dot (ref false line 5); name = name line 4 })) e.no_exprs)
+
+abbrev pub pair : Setting
+pair = setting_of names (program_of (
+    p.class class_cell
+    ∷ object 9 0 5
+    ∷ work
+    ∷ main_of 11 6 (
+        starting 12 8
+        ∷ starting 13 9
+        ∷ joining 14 8
+        ∷ joining 15 9
+        ∷ printing 16 (s.value (get_call 16) ∷ new_line 16 ∷ [])
+        ∷ returning 17 (literal 17 0)
+        ∷ [])
+    ∷ []))
+
+-- thread 0 waits twice for thread 1, which has a turn after its end, and once for thread 2
+abbrev pub pair_turns : List ℕ
+pair_turns = replicate 9 0 ++ replicate 13 1 ++ replicate 2 0 ++ replicate 12 2 ++ replicate 17 0
+
+abbrev pub pair_ran : Ran
+pair_ran = run pair pair_turns
+
+pub record PairRuns : Type 0 where
+  pub state : pair_ran.0.state ≡ ends 0
+  pub output : pair_ran.0.world.output ≡ codes "2" ++ line_end
+  pub counts : pair_ran.1 ≡ record { source = 49; inserted = 0; blocked = 3; idle = 1 }
+
+-- ---- an object of `new`
+
+-- int main() {
+--     Cell* p = new Cell();
+--     p->add(3u);
+--     delete p;
+--     delete p;
+--     return 0;
+-- }
+abbrev pub deleting : ℕ → s.StmtTree
+deleting line = s.delete (at line) (reading line 11)
+
+abbrev pub twice_deleted : Setting
+twice_deleted = setting_of names (program_of (
+    p.class class_cell
+    ∷ main_of 9 6 (
+        s.local (record {
+          type_name = pointer_to 10 0;
+          name = name 10 11;
+          initial = starting_with 10 (e.new_with (node 10) (name 10 0) e.no_exprs);
+        })
+        ∷ calling (base_of.Arrow (ref false 11 11)) 11 2 (one_expr (unsigned_literal 11 3))
+        ∷ deleting 12
+        ∷ deleting 13
+        ∷ returning 14 (literal 14 0)
+        ∷ [])
+    ∷ []))
+
+pub record ThreadsExampleRuns : Type 0 where
+  pub of_pair : PairRuns
+  pub of_deleted : ComesTo twice_deleted 25 (state.Stopped stop.Dead (at 13)) []
