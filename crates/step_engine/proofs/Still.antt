@@ -49,16 +49,23 @@ step-blocked true e = cc
 step-blocked false e = cc
 
 -- a turn that neither waits nor stops
+moving : (m : Machine) (n : Next) (inserted : Bool) → n.1 ≡ step_kind inserted → ((cause : Stop) (at : Place) → n.0.state ≡ state.Stopped cause at → ⊥) → Stays m n
+moving m n inserted e h = record {
+  idles = λ q. absurd (step-idle inserted (sym e ∙ q));
+  blocks = λ q. absurd (step-blocked inserted (sym e ∙ q));
+  stops_there = λ cause at q. absurd (h cause at q);
+}
+
 moves : (m : Machine) (t : ℕ) (fs : Thread) (inserted : Bool) (f : Frame) (d : Deed) → Stays m (landing m t fs inserted (done fs f d))
-moves m t fs inserted f on.stay = record { idles = λ e. absurd (step-idle inserted e); blocks = λ e. absurd (step-blocked inserted e); stops_there = λ cause at e. cc }
-moves m t fs inserted f (on.change c) = record { idles = λ e. absurd (step-idle inserted e); blocks = λ e. absurd (step-blocked inserted e); stops_there = λ cause at e. cc }
-moves m t fs inserted f (on.enter g) = record { idles = λ e. absurd (step-idle inserted e); blocks = λ e. absurd (step-blocked inserted e); stops_there = λ cause at e. cc }
-moves m t fs inserted f (on.create_entering class words g) = record { idles = λ e. absurd (step-idle inserted e); blocks = λ e. absurd (step-blocked inserted e); stops_there = λ cause at e. cc }
-moves m t fs inserted f (on.back v) = record { idles = λ e. absurd (step-idle inserted e); blocks = λ e. absurd (step-blocked inserted e); stops_there = λ cause at e. cc }
-moves m t fs inserted f (on.back_killing o) = record { idles = λ e. absurd (step-idle inserted e); blocks = λ e. absurd (step-blocked inserted e); stops_there = λ cause at e. cc }
-moves m t fs inserted f (on.start g) = record { idles = λ e. absurd (step-idle inserted e); blocks = λ e. absurd (step-blocked inserted e); stops_there = λ cause at e. cc }
-moves m t fs inserted f (on.end z) = record { idles = λ e. absurd (step-idle inserted e); blocks = λ e. absurd (step-blocked inserted e); stops_there = λ cause at e. cc }
-moves m t fs inserted f (on.halt o class) = record { idles = λ e. absurd (step-idle inserted e); blocks = λ e. absurd (step-blocked inserted e); stops_there = λ cause at e. cc }
+moves m t fs inserted f on.stay = moving m _ inserted refl (λ cause at e. cc)
+moves m t fs inserted f (on.change c) = moving m _ inserted refl (λ cause at e. cc)
+moves m t fs inserted f (on.enter g) = moving m _ inserted refl (λ cause at e. cc)
+moves m t fs inserted f (on.create_entering class words g) = moving m _ inserted refl (λ cause at e. cc)
+moves m t fs inserted f (on.back v) = moving m _ inserted refl (λ cause at e. cc)
+moves m t fs inserted f (on.back_killing o) = moving m _ inserted refl (λ cause at e. cc)
+moves m t fs inserted f (on.start g) = moving m _ inserted refl (λ cause at e. cc)
+moves m t fs inserted f (on.end z) = moving m _ inserted refl (λ cause at e. cc)
+moves m t fs inserted f (on.halt o class) = moving m _ inserted refl (λ cause at e. cc)
 
 -- the item is put back
 back-threads : (m : Machine) (t : ℕ) (f : Frame) (i : Item) (is : List Item) (fs : Thread) → slice_get m.threads t ≡ Some (f ∷ fs) → f.items ≡ i ∷ is

@@ -22,7 +22,9 @@ use Rattle.step_engine.specs.ActValues as values
 use Rattle.step_engine.specs.ActValues.{has, kept, again}
 use Rattle.step_engine.specs.ActMembers as members
 use Rattle.step_engine.specs.ActMembers.{or_zero}
+use Rattle.step_engine.specs.ActEnter as enter
 use Rattle.step_engine.specs.ActCalls as calls
+use Rattle.step_engine.specs.ActObjects as objects
 use Rattle.step_engine.specs.ActThreads as threads
 
 -- ---- expressions
@@ -71,9 +73,9 @@ stmt s r t (cs.declare name u source) f = declare name u source f
 stmt s r t (cs.assign l e) f = has (it.expr e ∷ it.put l ∷ f.items) f
 stmt s r t (cs.update at o u v l e) f = has (it.expr e ∷ it.expr (c.read l) ∷ it.op_left at o ∷ it.put l ∷ f.items) f
 stmt s r t (cs.run e) f = has (it.expr e ∷ drop_on (type_of e) f.items) f
-stmt s r t (cs.join at name) f = threads.join s r t at name f
-stmt s r t (cs.lock at m) f = threads.lock s r t at m f
-stmt s r t (cs.unlock at m) f = threads.unlock s r t at m f
+stmt s r t (cs.join at name) f = threads.join r.has_ended at name f
+stmt s r t (cs.lock at m) f = threads.lock s r.class r.holder t at m f
+stmt s r t (cs.unlock at m) f = threads.unlock s r.class r.holder t at m f
 stmt s r t (cs.branch e a b) f = has (it.expr e ∷ it.branch a b ∷ f.items) f
 stmt s r t (cs.while e body) f = has (it.expr e ∷ it.loop e body ∷ f.items) f
 stmt s r t (cs.for start e step body) f = has (stmts_on start (it.for_test e step body ∷ f.items)) f
@@ -90,10 +92,10 @@ stmt s r t (cs.wrong at) f = stays f
 
 -- what an item does that was taken off a frame of thread t
 abbrev pub act : Setting → Reads → ℕ → Item → Frame → Act
-act s r t (it.make at o class es) f = calls.make s r at o class es f
-act s r t (it.build at o class) f = calls.build s r at o class f
-act s r t (it.unmake at o class) f = calls.unmake s r at o class f
-act s r t it.run f = calls.run s r f
+act s r t (it.make at o class es) f = objects.make s r.depth r.class at o class es f
+act s r t (it.build at o class) f = objects.build s r.depth r.class at o class f
+act s r t (it.unmake at o class) f = objects.unmake s r.depth r.class r.is_busy at o class f
+act s r t it.run f = enter.run s r.depth f
 act s r t it.finish f = goes f (on.end (number (as_number (first f.values))))
 act s r t (it.stmt x) f = stmt s r t x f
 act s r t (it.expr e) f = expr s r e f
@@ -113,11 +115,11 @@ act s r t (it.branch a b) f = values.branch a b f
 act s r t (it.loop e body) f = again (stmts_on body (it.stmt (cs.while e body) ∷ f.items)) f
 act s r t (it.for_test e step body) f = has (it.expr e ∷ it.for_loop e step body ∷ f.items) f
 act s r t (it.for_loop e step body) f = again (stmts_on body (stmts_on step (it.for_test e step body ∷ f.items))) f
-act s r t (it.call callee) f = calls.call s r callee f
-act s r t (it.new at class) f = calls.new s r at class f
-act s r t (it.delete at class) f = calls.delete s r at class f
-act s r t (it.spawn at name g) f = threads.spawn s r t at name g f
-act s r t (it.up at g) f = calls.up s r at g f
-act s r t (it.down at g) f = calls.down s r at g f
-act s r t (it.leave at) f = calls.leave s r at f
-act s r t (it.end at ending) f = calls.end s r at ending f
+act s r t (it.call callee) f = calls.call s r.depth r.class callee f
+act s r t (it.new at class) f = objects.new s r.depth r.made at class f
+act s r t (it.delete at class) f = objects.delete s r.depth r.class r.is_busy at class f
+act s r t (it.spawn at name g) f = threads.spawn s r.started at name g f
+act s r t (it.up at g) f = enter.up s r.depth at g f
+act s r t (it.down at g) f = enter.down s r.depth at g f
+act s r t (it.leave at) f = calls.leave at f
+act s r t (it.end at ending) f = calls.end r.is_busy at ending f

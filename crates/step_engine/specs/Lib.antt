@@ -7,7 +7,9 @@ pub mod Effects
 pub mod Reads
 pub mod ActValues
 pub mod ActMembers
+pub mod ActEnter
 pub mod ActCalls
+pub mod ActObjects
 pub mod ActThreads
 pub mod Act
 pub mod Turn
@@ -16,9 +18,9 @@ pub mod Inserted
 pub mod Machine
 pub mod Start
 pub mod Runs
-pub mod Examples
 pub mod Total
-pub mod Bridge
 pub mod Laws
+pub mod Bridge
+pub mod Examples
 pub mod WovenExample
 pub mod ThreadsExample
