@@ -82,9 +82,9 @@ member line o m = e.left (left_of.Member (node line) (selector (base_of.Dot (ref
 abbrev pub sum : Setting
 sum = setting_of (codes "main" ∷ []) (program_of (
     main_of 1 0 (
-        printing 2 (s.value (e.binary (node 2) (placed 2 op.Add) (literal 2 2) (literal 2 3)) ∷ new_line 2 ∷ [])
-        ∷ returning 3 (literal 3 0)
-        ∷ [])
+    printing 2 (s.value (e.binary (node 2) (placed 2 op.Add) (literal 2 2) (literal 2 3)) ∷ new_line 2 ∷ [])
+    ∷ returning 3 (literal 3 0)
+    ∷ [])
     ∷ []))
 
 -- ---- a sum that overflows
@@ -96,11 +96,11 @@ plus_sign = record { file = 0; line = 1; column = 38 }
 abbrev pub overflow : Setting
 overflow = setting_of (codes "main" ∷ []) (program_of (
     main_of 1 0 (
-        printing 1 (
-            s.value (e.binary (node 1) (record { at = plus_sign; item = op.Add }) (literal 1 2147483647) (literal 1 1))
-            ∷ [])
-        ∷ returning 1 (literal 1 0)
-        ∷ [])
+    printing 1 (
+    s.value (e.binary (node 1) (record { at = plus_sign; item = op.Add }) (literal 1 2147483647) (literal 1 1))
+    ∷ [])
+    ∷ returning 1 (literal 1 0)
+    ∷ [])
     ∷ []))
 
 -- ---- an object
@@ -183,10 +183,10 @@ cell = setting_of cell_names (program_of (
     p.class class_cell
     ∷ object 9 0 5
     ∷ main_of 10 6 (
-        calling (base_of.Dot (ref false 11 5)) 11 2 (e.more_exprs (unsigned_literal 11 7) e.no_exprs)
-        ∷ printing 12 (s.value get_call ∷ new_line 12 ∷ [])
-        ∷ returning 13 (literal 13 0)
-        ∷ [])
+    calling (base_of.Dot (ref false 11 5)) 11 2 (e.more_exprs (unsigned_literal 11 7) e.no_exprs)
+    ∷ printing 12 (s.value get_call ∷ new_line 12 ∷ [])
+    ∷ returning 13 (literal 13 0)
+    ∷ [])
     ∷ []))
 
 -- ---- what they come to

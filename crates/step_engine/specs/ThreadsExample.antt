@@ -93,13 +93,13 @@ pair = setting_of names (program_of (
     ∷ object 9 0 5
     ∷ work
     ∷ main_of 11 6 (
-        starting 12 8
-        ∷ starting 13 9
-        ∷ joining 14 8
-        ∷ joining 15 9
-        ∷ printing 16 (s.value (get_call 16) ∷ new_line 16 ∷ [])
-        ∷ returning 17 (literal 17 0)
-        ∷ [])
+    starting 12 8
+    ∷ starting 13 9
+    ∷ joining 14 8
+    ∷ joining 15 9
+    ∷ printing 16 (s.value (get_call 16) ∷ new_line 16 ∷ [])
+    ∷ returning 17 (literal 17 0)
+    ∷ [])
     ∷ []))
 
 -- thread 0 waits twice for thread 1, which has a turn after its end, and once for thread 2
@@ -130,16 +130,16 @@ abbrev pub twice_deleted : Setting
 twice_deleted = setting_of names (program_of (
     p.class class_cell
     ∷ main_of 9 6 (
-        s.local (record {
-          type_name = pointer_to 10 0;
-          name = name 10 11;
-          initial = starting_with 10 (e.new_with (node 10) (name 10 0) e.no_exprs);
-        })
-        ∷ calling (base_of.Arrow (ref false 11 11)) 11 2 (one_expr (unsigned_literal 11 3))
-        ∷ deleting 12
-        ∷ deleting 13
-        ∷ returning 14 (literal 14 0)
-        ∷ [])
+    s.local (record {
+      type_name = pointer_to 10 0;
+      name = name 10 11;
+      initial = starting_with 10 (e.new_with (node 10) (name 10 0) e.no_exprs);
+    })
+    ∷ calling (base_of.Arrow (ref false 11 11)) 11 2 (one_expr (unsigned_literal 11 3))
+    ∷ deleting 12
+    ∷ deleting 13
+    ∷ returning 14 (literal 14 0)
+    ∷ [])
     ∷ []))
 
 pub record ThreadsExampleRuns : Type 0 where

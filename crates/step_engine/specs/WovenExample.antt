@@ -177,10 +177,10 @@ woven = setting_of names (program_of (
     p.class class_cell
     ∷ object 54 0 5
     ∷ main_of 55 6 (
-        calling (base_of.Dot (ref false 56 5)) 56 2 (e.more_exprs (unsigned_literal 56 7) e.no_exprs)
-        ∷ printing 57 (s.value get_call ∷ new_line 57 ∷ [])
-        ∷ returning 58 (literal 58 0)
-        ∷ [])
+    calling (base_of.Dot (ref false 56 5)) 56 2 (e.more_exprs (unsigned_literal 56 7) e.no_exprs)
+    ∷ printing 57 (s.value get_call ∷ new_line 57 ∷ [])
+    ∷ returning 58 (literal 58 0)
+    ∷ [])
     ∷ []))
 
 abbrev pub ran : Ran
