@@ -3,7 +3,7 @@ use Rattle.std.proofs.Common.{refl}
 use Rattle.std.specs.Fmt.{digits}
 use Rattle.step_engine.specs.Examples.{ExamplesRun}
 use Rattle.step_engine.specs.WovenExample.{WovenExampleRuns}
-use Rattle.step_engine.specs.ThreadsExample.{ThreadsExampleRuns}
+use Rattle.step_engine.specs.MoreExamples.{MoreExamplesRun}
 
 pub examples : ExamplesRun
 unfolding digits
@@ -18,9 +18,12 @@ pub woven_runs : WovenExampleRuns
 unfolding digits
 woven_runs = record { state = refl; output = refl; counts = refl }
 
-pub threads_run : ThreadsExampleRuns
+pub more_run : MoreExamplesRun
 unfolding digits
-threads_run = record {
+more_run = record {
   of_pair = record { state = refl; output = refl; counts = refl };
   of_deleted = record { state = refl; output = refl; counts = refl };
+  of_too_deep = record { state = refl; output = refl; counts = refl };
+  of_locked_twice = record { state = refl; output = refl; counts = refl };
+  of_base = record { state = refl; output = refl; counts = refl };
 }

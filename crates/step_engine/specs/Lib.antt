@@ -23,4 +23,4 @@ pub mod Laws
 pub mod Bridge
 pub mod Examples
 pub mod WovenExample
-pub mod ThreadsExample
+pub mod MoreExamples

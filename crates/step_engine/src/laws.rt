@@ -3,14 +3,14 @@
 ghost use Rattle.step_engine.specs.Bridge.{ListsAndFunctionsAgree};
 ghost use Rattle.step_engine.specs.Examples.{ExamplesRun};
 ghost use Rattle.step_engine.specs.WovenExample.{WovenExampleRuns};
-ghost use Rattle.step_engine.specs.ThreadsExample.{ThreadsExampleRuns};
+ghost use Rattle.step_engine.specs.MoreExamples.{MoreExamplesRun};
 ghost use Rattle.step_engine.specs.Laws.{TurnsThatChangeNothing};
 
-/// The examples take as many steps as are counted by hand, print what they print and come to what they come to.
+/// The examples take the numbers of steps that are written beside them, print what they print and come to what they come to.
 pub fn examples_run()
     ensures small { ExamplesRun }
     ensures woven { WovenExampleRuns }
-    ensures threads { ThreadsExampleRuns }
+    ensures more { MoreExamplesRun }
 {}
 
 /// A turn does the same on the state as lists and on the state as functions.

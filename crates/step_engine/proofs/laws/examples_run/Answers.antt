@@ -1,4 +1,4 @@
-use Rattle.step_engine.proofs.Examples.{examples, woven_runs, threads_run}
+use Rattle.step_engine.proofs.Examples.{examples, woven_runs, more_run}
 use Rattle.step_engine.proofs.laws.examples_run.Goals as goal
 
 pub returns-clause-small : goal.returns-clause-small
@@ -7,5 +7,5 @@ returns-clause-small c = examples
 pub returns-clause-woven : goal.returns-clause-woven
 returns-clause-woven c = woven_runs
 
-pub returns-clause-threads : goal.returns-clause-threads
-returns-clause-threads c = threads_run
+pub returns-clause-more : goal.returns-clause-more
+returns-clause-more c = more_run

@@ -1,10 +1,10 @@
--- Programs with threads and with objects of `new`, and what machines make of them.
-use Rattle.std.specs.Prelude.{◌≡◌, ℕ, false, List, [], ◌∷◌, ◌++◌, replicate, None, codes}
+-- Programs with threads, a mutex, objects of `new`, a base, and calls without end, and what machines make of them.
+use Rattle.std.specs.Prelude.{◌≡◌, ℕ, false, List, [], ◌∷◌, ◌++◌, replicate, Some, None, codes}
 use Rattle.cxx_tree.specs.declared.expr.Base.TheVariants as base_of
 use Rattle.cxx_tree.specs.declared.expr.Callee.TheVariants as callee_of
 use Rattle.cxx_tree.specs.declared.operator.BinOp.TheVariants as op
 use Rattle.cxx_tree.specs.declared.program.Access.TheVariants.{Public}
-use Rattle.cxx_tree.specs.declared.program.ClassWord.TheVariants.{Class}
+use Rattle.cxx_tree.specs.declared.program.ClassWord.TheVariants.{Class, Struct}
 use Rattle.cxx_tree.specs.declared.program.TypeName.TheVariants as type_name
 use Rattle.cxx_tree.specs.ExprTree as e
 use Rattle.cxx_tree.specs.StmtTree as s
@@ -15,7 +15,7 @@ use Rattle.step_engine.specs.declared.outcome.Stop.TheVariants as stop
 use Rattle.step_engine.specs.Item.{line_end}
 use Rattle.step_engine.specs.Setting.{Setting}
 use Rattle.step_engine.specs.Runs.{Ran, run}
-use Rattle.step_engine.specs.Examples.{setting_of, ComesTo, ends, printing, new_line, returning, main_of, word_type, empty_ctor, empty_dtor, object, unsigned_literal}
+use Rattle.step_engine.specs.Examples.{setting_of, ComesTo, ends, printing, new_line, returning, main_of, word_type, empty_ctor, empty_dtor, object, member, unsigned_literal}
 use Rattle.step_engine.specs.WovenExample.{function, word, setting_to, between}
 
 -- class Cell {
@@ -52,7 +52,7 @@ class_cell = record {
 abbrev pub names : List (List ℕ)
 names =
     codes "Cell" ∷ codes "v" ∷ codes "add" ∷ codes "x" ∷ codes "get" ∷ codes "c" ∷ codes "main" ∷ codes "work" ∷ codes "a" ∷ codes "b"
-    ∷ codes "join" ∷ codes "p" ∷ []
+    ∷ codes "join" ∷ codes "p" ∷ codes "lock" ∷ []
 
 abbrev pub one_expr : e.ExprTree → e.ExprTrees
 one_expr only = e.more_exprs only e.no_exprs
@@ -142,6 +142,102 @@ twice_deleted = setting_of names (program_of (
     ∷ [])
     ∷ []))
 
-pub record ThreadsExampleRuns : Type 0 where
+-- ---- a function without end
+
+-- void work() { work(); }
+-- int main() { work(); return 0; }
+abbrev pub calling_work : ℕ → s.StmtTree
+calling_work line = s.simple (s.call_stmt (e.calls (node line) (callee_of.Bare (ref false line 7)) e.no_exprs))
+
+abbrev pub too_deep : Setting
+too_deep = setting_of names (program_of (
+    p.free_function (record {
+      result = placed 1 type_name.Void;
+      name = name 1 7;
+      params = [];
+      body = in_braces 1 (calling_work 1 ∷ []);
+    })
+    ∷ main_of 2 6 (calling_work 2 ∷ returning 2 (literal 2 0) ∷ [])
+    ∷ []))
+
+-- ---- a mutex taken twice
+
+-- std::mutex a;
+-- int main() { a.lock(); a.lock(); return 0; }
+abbrev pub locking : ℕ → s.StmtTree
+locking line = calling (base_of.Dot (ref false line 8)) line 12 e.no_exprs
+
+abbrev pub locked_twice : Setting
+locked_twice = setting_of names (program_of (
+    p.global (p.mutex (at 1) (name 1 8))
+    ∷ main_of 2 6 (locking 3 ∷ locking 4 ∷ returning 5 (literal 5 0) ∷ [])
+    ∷ []))
+
+-- ---- a base
+
+-- struct Cell {
+--     uint32_t v;
+--     Cell(uint32_t x) { v = x; }
+--     ~Cell() { }
+-- };
+-- struct p : public Cell {
+--     uint32_t a;
+--     p() : Cell(5) { a = 4; }
+--     ~p() { }
+-- };
+-- p c;
+-- int main() { std::cout << c.v << c.a; return 0; }
+abbrev pub base_class : p.ClassTree
+base_class = record {
+  at = at 1;
+  word = Struct;
+  name = name 1 0;
+  base = None;
+  items =
+      word 2 1
+      ∷ p.ctor (record {
+        name = name 3 0;
+        params = record { type_name = word_type 3; name = name 3 3 } ∷ [];
+        inits = [];
+        body = in_braces 3 (setting_to 3 1 (reading 3 3) ∷ []);
+      })
+      ∷ empty_dtor 4 0
+      ∷ [];
+}
+
+abbrev pub derived_class : p.ClassTree
+derived_class = record {
+  at = at 6;
+  word = Struct;
+  name = name 6 11;
+  base = Some (name 6 0);
+  items =
+      word 7 8
+      ∷ p.ctor (record {
+        name = name 8 11;
+        params = [];
+        inits = record { name = name 8 0; arguments = one_expr (literal 8 5) } ∷ [];
+        body = in_braces 8 (setting_to 8 8 (literal 8 4) ∷ []);
+      })
+      ∷ empty_dtor 9 11
+      ∷ [];
+}
+
+abbrev pub with_base : Setting
+with_base = setting_of names (program_of (
+    p.class base_class
+    ∷ p.class derived_class
+    ∷ object 11 11 5
+    ∷ main_of 12 6 (
+    printing 12 (s.value (member 12 5 1) ∷ s.value (member 12 5 8) ∷ [])
+    ∷ returning 12 (literal 12 0)
+    ∷ [])
+    ∷ []))
+
+pub record MoreExamplesRun : Type 0 where
   pub of_pair : PairRuns
   pub of_deleted : ComesTo twice_deleted 25 (state.Stopped stop.Dead (at 13)) []
+  -- 199 calls of three steps each, of which the last one stops
+  pub of_too_deep : ComesTo too_deep 598 (state.Stopped stop.Depth (at 1)) []
+  pub of_locked_twice : ComesTo locked_twice 3 (state.Stopped stop.SelfLock (at 4)) []
+  pub of_base : ComesTo with_base 26 (ends 0) (codes "54")
