@@ -47,21 +47,21 @@ module _ (s : Setting) (depth : ℕ) where
 
   -- ---- constructors and destructors on an object
 
-  abbrev pub construct_of : ℕ → Place → Option ℕ → Option CoreFunction → Frame → Act
-  construct_of g at o None f = stays f
-  construct_of g at o (Some function) f = enter g at function o it.returns (arguments function f) f
+  abbrev pub enter_on_of : ℕ → Place → Option ℕ → Option CoreFunction → Frame → Act
+  enter_on_of g at o None f = stays f
+  enter_on_of g at o (Some function) f = enter g at function o it.returns (arguments function f) f
 
-  -- with the number of the constructor; where there is none nothing is done
-  abbrev pub construct : Place → Option ℕ → Option ℕ → Frame → Act
-  construct at o None f = stays f
-  construct at o (Some g) f = construct_of g at o (function_at s g) f
+  -- with its number; where there is none nothing is done
+  abbrev pub enter_on : Place → Option ℕ → Option ℕ → Frame → Act
+  enter_on at o None f = stays f
+  enter_on at o (Some g) f = enter_on_of g at o (function_at s g) f
 
   -- the base's constructor, and the base's destructor, on the same object
   abbrev pub up : Place → ℕ → Frame → Act
-  up at g f = construct at f.this (Some g) f
+  up at g f = enter_on at f.this (Some g) f
 
   abbrev pub down : Place → ℕ → Frame → Act
-  down at g f = construct at f.this (Some g) f
+  down at g f = enter_on at f.this (Some g) f
 
   abbrev pub destruct_of : ℕ → Place → ℕ → Option CoreFunction → Frame → Act
   destruct_of g at o None f = goes f (on.change (on.kill o))

@@ -13,7 +13,7 @@ use Rattle.step_engine.specs.Item.{exprs_on}
 use Rattle.step_engine.specs.Frame.{Frame, Binding, pushed, popped, top, arguments, frame_of, is_on}
 use Rattle.step_engine.specs.Effects as on
 use Rattle.step_engine.specs.Effects.{Act, goes, stops, stays}
-use Rattle.step_engine.specs.ActEnter.{after_arguments, entering, construct, destruct}
+use Rattle.step_engine.specs.ActEnter.{after_arguments, entering, enter_on, destruct}
 
 -- how many objects may be made
 abbrev pub object_limit : ℕ
@@ -25,14 +25,14 @@ module _ (s : Setting) (depth : ℕ) where
   module _ (class_of : ℕ → Option ClassId) where
     abbrev pub build_by : Place → ℕ → ClassId → Option ClassId → Frame → Act
     build_by at o class None f = stops stop.Dead at
-    build_by at o class (Some live) f = construct s depth at (Some o) (constructor_of s class) f
+    build_by at o class (Some live) f = enter_on s depth at (Some o) (constructor_of s class) f
 
     abbrev pub build : Place → ℕ → ClassId → Frame → Act
     build at o class f = build_by at o class (class_of o) f
 
     abbrev pub make_by : Place → ℕ → ClassId → CoreExprs → Option ClassId → Frame → Act
     make_by at o class es None f = stops stop.Dead at
-    make_by at o class c.no_exprs (Some live) f = construct s depth at (Some o) (constructor_of s class) f
+    make_by at o class c.no_exprs (Some live) f = enter_on s depth at (Some o) (constructor_of s class) f
     make_by at o class (c.more_exprs e es) (Some live) f =
         stays (record f { items = exprs_on (c.more_exprs e es) (it.build at o class ∷ f.items) })
 
