@@ -56,12 +56,15 @@ pub form-unbuilt : (file text : List ℕ) (tokens : List Token) (end : Place) (a
     → HasProgram tokens end → ((statements : List Statement) → IsFirstForm tokens statements → ⊥) → answer ≡ refused file (at_beginning U1) → IsRunOf file text answer
 form-unbuilt file text tokens end answer small t (q, p, v) n e = unbuilt tokens end q small t p v (λ statements f s. n statements f) e
 
--- what is told of a program is what is told of its normal form
-pub violation-is : (tokens : List Token) (program q : ProgramTree) (names old : List (List ℕ)) (v : Option Refusal) → names ≡ with_main old → old ≡ names_in tokens → q ≡ normal_among names program
-    → refusal_of names Woven q ≡ v → violation_in tokens program ≡ v
-violation-is tokens program q names old v n o e h =
-    let m : names ≡ normal_names tokens = n ∙ ap with_main o in
-    sym (ap (λ x. refusal_of x Woven (normal_among x program)) m) ∙ (sym (ap (refusal_of names Woven) e) ∙ h)
+-- the names of a program's tokens are those that the normal form goes on from
+pub violation-is : (tokens : List Token) (program : ProgramTree) (old : List (List ℕ)) (v : Option Refusal) → old ≡ names_in tokens
+    → refusal_of (with_main old) Woven (normal_among (with_main old) program) ≡ v → violation_in tokens program ≡ v
+violation-is tokens program old v o h = sym (ap (λ x. refusal_of (with_main x) Woven (normal_among (with_main x) program)) o) ∙ h
+
+-- what is told of a normal form, by what it is the normal form of
+pub told : (names main : List (List ℕ)) (program q : ProgramTree) (v : Option Refusal) → names ≡ main → q ≡ normal_among names program → refusal_of names Woven q ≡ v
+    → refusal_of main Woven (normal_among main program) ≡ v
+told names main program q v n e h = sym (ap (λ x. refusal_of x Woven (normal_among x program)) n) ∙ (sym (ap (refusal_of names Woven) e) ∙ h)
 
 -- ---- each file has an answer
 

@@ -6,6 +6,8 @@ ghost use Rattle.cxx_lex.specs.Tokens.{HasTokens};
 ghost use Rattle.agxx_base.specs.declared.kind.Mode.TheVariants.{Woven};
 ghost use Rattle.agxx_main.specs.Answers as answers;
 ghost use Rattle.cxx_tree.specs.ProgramTree.{program_tree};
+ghost use Rattle.cxx_normal.specs.Normal.{with_main, normal_among};
+ghost use Rattle.cxx_types.specs.Violations.{refusal_of};
 ghost use Rattle.agxx_main.specs.Answers.{names_in, IsProgramIn, HasProgram, IsRunOf};
 ghost use Rattle.agxx_main.specs.Outcome.{IsExecDue};
 
@@ -56,6 +58,29 @@ fn run(alloc: Global, file: &Text, text: &Text, toks: &Toks) -> Result<Answer, M
     }
 }
 
+/// The rule on names and types that a program violates, and where.
+fn violation(alloc: Global, names: &Names, normal: Program) -> Result<Option<Refusal>, Memory>
+    ensures { IfOk result (λ violation. refusal_of names.now Woven (program_tree normal) ≡ violation) }
+{
+    match check(alloc, names, normal, Mode::Woven) {
+        Ok(_) => Ok(None),
+        Err(Fault::Refused(refusal)) => Ok(Some(refusal)),
+        Err(Fault::Memory) => Err(Memory),
+    }
+}
+
+/// The same in the normal form of a program, for which `main` gets a number among the names.
+fn violation_of(
+    alloc: Global,
+    names: &mut Names,
+    program: Program,
+) -> Result<Option<Refusal>, Memory>
+    ensures { IfOk result (λ violation. refusal_of (with_main names.old) Woven (normal_among (with_main names.old) (program_tree program)) ≡ violation) }
+{
+    let normal = normal(alloc, &program, names)?;
+    violation(alloc, names, normal)
+}
+
 /// The answer for a program.
 fn check_program(
     alloc: Global,
@@ -63,19 +88,17 @@ fn check_program(
     text: &Text,
     toks: &Toks,
     names: &mut Names,
-    program: &Program,
+    program: Program,
 ) -> Result<Answer, Memory>
     requires small { length text.now ≤ 16777216 }
     requires tokens { HasTokens Woven 0 text.now (tokens_of toks.now.items) toks.now.end }
-    requires program { IsProgramIn (tokens_of toks.now.items) toks.now.end (program_tree program.now) }
+    requires program { IsProgramIn (tokens_of toks.now.items) toks.now.end (program_tree program) }
     requires names { names.old ≡ names_in (tokens_of toks.now.items) }
     ensures { IfOk result (λ answer. IsRunOf file.now text.now answer) }
 {
-    let normal = normal(alloc, program, names)?;
-    match check(alloc, names, normal, Mode::Woven) {
-        Ok(_) => run(alloc, file, text, toks),
-        Err(Fault::Refused(refusal)) => Answer::refused(alloc, file, refusal),
-        Err(Fault::Memory) => Err(Memory),
+    match violation_of(alloc, names, program)? {
+        None => run(alloc, file, text, toks),
+        Some(refusal) => Answer::refused(alloc, file, refusal),
     }
 }
 
@@ -87,7 +110,7 @@ fn parse(alloc: Global, file: &Text, text: &Text, toks: &Toks) -> Result<Answer,
 {
     let mut names = Names::new(alloc);
     match parse_program(alloc, &mut names, toks, Mode::Woven) {
-        Ok(program) => check_program(alloc, file, text, toks, &mut names, &program),
+        Ok(program) => check_program(alloc, file, text, toks, &mut names, program),
         Err(Fault::Refused(refusal)) => Answer::refused(alloc, file, refusal),
         Err(Fault::Memory) => Err(Memory),
     }
