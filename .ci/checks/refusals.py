@@ -58,8 +58,8 @@ def cases():
     for part in ("a", "\\n"):
         yield f'int main() {{ std::cout << "{part * 4096}"; return 1; }}', "accepted"
         yield f'int main() {{ std::cout << "{part * 4097}"; return 1; }}', "1:27 N10"
-    # 1000 locals in each of 200 functions, and some names that are no locals: the last local is the 200,001st name, or the 200,000th
-    for last, said in ((999, "200200:5 N10"), (998, "accepted")):
+    # 999 locals in each of 200 functions: with the functions and `main` the last local is the 200,001st name, or the 200,000th
+    for last, said in ((999, "200000:5 N10"), (998, "accepted")):
         functions = [
             "\n".join([f"void f{j}() {{", *(f"int x{j}_{i};" for i in range(last if j == 199 else 999)), "}"])
             for j in range(200)
