@@ -4,6 +4,7 @@
 mod access;
 mod base_arguments;
 mod calls;
+mod chains;
 mod checker;
 mod classes;
 mod context;
@@ -20,6 +21,7 @@ mod selections;
 mod statements;
 mod typed;
 
+pub use chains::{Chain, Chains, JoinPoint, Link, Links, PointKind};
 pub use context::Context;
 pub use cxx_layout::{ClassList, Layout, WordInfo};
 pub use cxx_names::ValueType;
