@@ -6,8 +6,6 @@ use std::alloc::Global;
 use std::process::Abort;
 use std::test::Fail;
 
-mod names;
-
 const SUM: &[u8] = b"int main(){ std::cout << 2+3 << \"\\n\"; return 0; }";
 
 /// A name of 256 bytes.
@@ -116,6 +114,28 @@ fn what_is_no_program_is_refused(rt: HostRuntime) -> Result<(), Fail> {
         (
             b"int main() { std::cout << \"a\" + 1; return 0; }",
             b"a.cc:1:31: G1: unexpected token\n",
+        ),
+    ] {
+        expect(&rt, rt.alloc(), &exec, text, (Status::Refused, b"", line))?;
+    }
+    Ok(())
+}
+
+#[test]
+fn what_violates_a_rule_on_names_is_refused(rt: HostRuntime) -> Result<(), Fail> {
+    let exec = [b"exec".as_slice(), b"a.cc"];
+    for (text, line) in [
+        (
+            b"struct A { uint32_t v; };\nA a;\nint main() { A* p = &a.v; return 0; }".as_slice(),
+            b"a.cc:3:21: N7: address of anything but a global object\n".as_slice(),
+        ),
+        (
+            b"struct A { uint32_t v; };\nA a;\nint main() { return a.v; }",
+            b"a.cc:1:1: U1: form not built\n",
+        ),
+        (
+            b"int main() { return nope + nullptr; }",
+            b"a.cc:1:21: N1: unknown name\n",
         ),
     ] {
         expect(&rt, rt.alloc(), &exec, text, (Status::Refused, b"", line))?;
