@@ -52,7 +52,7 @@ def cases():
     """Each text with what is said of it."""
     for line in CASES.read_text().splitlines():
         if line and not line.startswith("#"):
-            yield line[12:].replace("\\n", "\n"), line[:12].strip()
+            yield line[12:].encode().decode("unicode_escape"), line[:12].strip()
     for front, (before, behind), count, back, said in LIMITS:
         yield "\n".join([front, *(f"{before}{number}{behind}" for number in range(count)), back]), said
     for part in ("a", "\\n"):
@@ -70,7 +70,7 @@ def cases():
 def said_of(text):
     with tempfile.TemporaryDirectory() as folder:
         path = pathlib.Path(folder) / "a.cc"
-        path.write_text(text)
+        path.write_bytes(text.encode("latin-1"))
         run = subprocess.run([PROGRAM, "exec", str(path)], capture_output=True, text=True)
     place, rule = run.stderr.split(": ")[:2]
     said = f"{place.removeprefix(str(path) + ':')} {rule}"
