@@ -77,7 +77,7 @@ own_object o None = None
 own_object o (Some class) = Some (o, class)
 
 abbrev pub object_by : Ref → Option Variable → Option (CoreObject × ClassId)
-object_by r (Some (variable_of.Global (thing.Object class))) = Some (c.by_object r.name.item.0 class, class)
+object_by r (Some (variable_of.Global (thing.Object (Some class)))) = Some (c.by_object r.name.item.0 class, class)
 object_by r _ = None
 
 abbrev pub pointed_by : Option CoreLeft → Option (CoreObject × ClassId)

@@ -102,10 +102,6 @@ abbrev pub pointer_by : Option ClassId → Thing
 pointer_by None = thing.Nothing
 pointer_by (Some class) = thing.Value (value.Pointer class)
 
-abbrev pub object_by : Option ClassId → Thing
-object_by None = thing.Nothing
-object_by (Some class) = thing.Object class
-
 -- what a variable of this type holds
 abbrev pub thing_of : Declared → TypeName → Thing
 thing_of d (type_name.Num kind) = thing.Value (value.Number kind)
@@ -117,7 +113,7 @@ thing_of d type_name.Mutex = thing.Mutex
 
 abbrev pub global_thing : Declared → GlobalInfo → Thing
 global_thing d (info.Variable t) = thing_of d t
-global_thing d (info.Object class) = object_by (class_named d class.0)
+global_thing d (info.Object class) = thing.Object (class_named d class.0)
 global_thing d info.Mutex = thing.Mutex
 
 -- ---- the stages of a look-up

@@ -115,10 +115,7 @@ impl Declared {
     {
         match global {
             GlobalInfo::Variable(type_name) => self.thing_of(type_name),
-            GlobalInfo::Object(class) => match self.class_named(class) {
-                None => Thing::Nothing,
-                Some(class) => Thing::Object(class),
-            },
+            GlobalInfo::Object(class) => Thing::Object(self.class_named(class)),
             GlobalInfo::Mutex => Thing::Mutex,
         }
     }

@@ -19,7 +19,8 @@ pub enum ValueType {
 #[derive(Clone, Copy, Debug, PartialEq, Eq)]
 pub enum Thing {
     Value(ValueType),
-    Object(ClassId),
+    /// An object, of this class unless it is declared with what is no class.
+    Object(Option<ClassId>),
     Thread,
     Mutex,
     /// Nothing, since it is declared with no type that a variable can have.

@@ -36,7 +36,7 @@ use Rattle.cxx_types.specs.declared.classes.ItemsSeen.{ItemsSeen}
 use Rattle.cxx_types.specs.Checking.{required}
 use Rattle.cxx_types.specs.Conversion.{may_convert}
 use Rattle.cxx_types.specs.Counts.{most_params, most_ancestors}
-use Rattle.cxx_types.specs.Selections.{meant, value_of}
+use Rattle.cxx_types.specs.Selections.{meant, is_value, value_of}
 use Rattle.cxx_types.specs.Calls.{counts, ctor_of}
 use Rattle.cxx_types.specs.Expressions.{Typed, count, expr, exprs, passed, both}
 use Rattle.cxx_types.specs.Statements.{body, dtor_of}
@@ -145,11 +145,12 @@ member_arguments c name t (e.more_exprs first rest) s =
     let x = expr c first s in
     (exprs c [] true rest (required rule.N3 name.at (may_convert x.0.declared x.1 (value_of (thing_of x.0.declared t))) x.0)).0
 
--- an initialiser names the base, or a member of the class itself
+-- an initialiser names the base, or a member of the class itself, which isn't a mutex
 abbrev pub member_init : Context → InitTree → Option MemberInfo → State → State
 member_init c i None s = (exprs c [] true i.arguments (required rule.N1 i.name.at false s)).0
 member_init c i (Some m) s =
-    member_arguments c i.name m.type_name i.arguments (required rule.N4 i.name.at (nat_eq (count i.arguments) 1) s)
+    member_arguments c i.name m.type_name i.arguments
+    (required rule.N3 i.name.at (is_value (thing_of s.declared m.type_name)) (required rule.N4 i.name.at (nat_eq (count i.arguments) 1) s))
 
 abbrev pub init_by : Context → ClassInfo → InitTree → Bool → State → State
 init_by c class i true s = base_init c class i s

@@ -81,32 +81,31 @@ kind_of _ = num.I32
 abbrev pub cast : ℕ → NumKind → Place → Typed → Typed
 cast index kind at x = (closed index (cast_type kind x.1) (required rule.N3 at (casts kind x.1) x.0), cast_type kind x.1)
 
--- the object whose address is taken: a global one, by its name
-abbrev pub object_in : Option Variable → Option ClassId
+-- the class of the object whose address is taken, if it is of one: a global object, by its name
+abbrev pub object_in : Option Variable → Option (Option ClassId)
 object_in (Some (variable.Global (thing.Object class))) = Some class
 object_in _ = None
 
-abbrev pub with_name : Ref → Option ClassId → Option (Ref × ClassId)
+abbrev pub with_name : Ref → Option (Option ClassId) → Option (Ref × Option ClassId)
 with_name r None = None
 with_name r (Some class) = Some (r, class)
 
-abbrev pub addressed_left : Context → Left → State → Option (Ref × ClassId)
+abbrev pub addressed_left : Context → Left → State → Option (Ref × Option ClassId)
 addressed_left c (left_of.Name r) s = with_name r (object_in (meant c r s))
 addressed_left c _ s = None
 
-abbrev pub addressed : Context → ExprTree → State → Option (Ref × ClassId)
+abbrev pub addressed : Context → ExprTree → State → Option (Ref × Option ClassId)
 addressed c (e.left l) s = addressed_left c l s
 addressed c _ s = None
 
-abbrev pub address : Context → Ref × ClassId → State → Typed
-address c p s =
-    (variable_node c p.0 (meant c p.0 s) (noted (Some (value.Pointer p.1)) meaning.Other s), Some (value.Pointer p.1))
+abbrev pub address : Context → Ref × Option ClassId → State → Typed
+address c p s = (variable_node c p.0 (meant c p.0 s) (noted (own_type p.1) meaning.Other s), own_type p.1)
 
 -- anything else has no address
 abbrev pub no_address : Node → (State → Typed) → State → Typed
 no_address n operand s = ((operand (noted None meaning.Other (required rule.N7 n.at false s))).0, None)
 
-abbrev pub address_by : Context → Node → Option (Ref × ClassId) → (State → Typed) → State → Typed
+abbrev pub address_by : Context → Node → Option (Ref × Option ClassId) → (State → Typed) → State → Typed
 address_by c n None operand s = no_address n operand s
 address_by c n (Some p) operand s = address c p s
 

@@ -86,7 +86,7 @@ own_holder (Some class) = holder_of.Class class
 
 -- objects, threads and mutexes have members behind `.`
 abbrev pub dot_holder : Thing → Holder
-dot_holder (thing.Object class) = holder_of.Class class
+dot_holder (thing.Object class) = own_holder class
 dot_holder thing.Thread = holder_of.Thread
 dot_holder thing.Mutex = holder_of.Mutex
 dot_holder _ = holder_of.Unknown

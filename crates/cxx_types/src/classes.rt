@@ -12,7 +12,7 @@ use crate::context::{Context, Owner};
 use crate::conversion::may_convert;
 use crate::expressions::count;
 use crate::locals::following;
-use crate::selections::value_of;
+use crate::selections::{is_value, value_of};
 use agxx_base::{ClassId, Memory, NameId, Rule};
 use cxx_names::{ClassInfo, Declared, MemberInfo, Signature, Table};
 use cxx_tree::{
@@ -213,7 +213,9 @@ impl<'a> Checker<'a> {
                 Ok(())
             }
             Some(member) => {
+                let is_right = is_value(self.declared.thing_of(member.type_name));
                 self.require(Rule::N4, init.name.at, count(arguments) == 1)?;
+                self.require(Rule::N3, init.name.at, is_right)?;
                 self.member_arguments(context, init.name, member.type_name, arguments)
             }
         }

@@ -34,7 +34,7 @@ fn kind_of(type_name: TypeName) -> NumKind
     }
 }
 
-fn object_in(variable: Option<Variable>) -> Option<ClassId>
+fn object_in(variable: Option<Variable>) -> Option<Option<ClassId>>
     ensures { result ≡ spec.object_in variable }
 {
     match variable {
@@ -134,7 +134,7 @@ impl<'a> Checker<'a> {
         Ok(value_type)
     }
 
-    fn addressed_left(&self, context: Context, left: Left) -> Option<(Ref, ClassId)>
+    fn addressed_left(&self, context: Context, left: Left) -> Option<(Ref, Option<ClassId>)>
         ensures { result ≡ spec.addressed_left context left self.now }
     {
         match left {
@@ -146,8 +146,8 @@ impl<'a> Checker<'a> {
         }
     }
 
-    /// The global object whose address is taken.
-    fn addressed(&self, context: Context, operand: &Expr) -> Option<(Ref, ClassId)>
+    /// The global object whose address is taken, and its class.
+    fn addressed(&self, context: Context, operand: &Expr) -> Option<(Ref, Option<ClassId>)>
         ensures { result ≡ spec.addressed context (expr_tree operand.now) self.now }
     {
         match operand {
@@ -160,11 +160,11 @@ impl<'a> Checker<'a> {
         &mut self,
         context: Context,
         reference: Ref,
-        class: ClassId,
+        class: Option<ClassId>,
     ) -> Result<Option<ValueType>, Memory>
         ensures { IfOk result (λ t. (self.new, t) ≡ spec.address context (reference, class) self.old) }
     {
-        let pointer = Some(ValueType::Pointer(class));
+        let pointer = own_type(class);
         let variable = self.meant(context, reference);
         self.node(pointer, Meaning::Other)?;
         self.variable_node(context, reference, variable)?;

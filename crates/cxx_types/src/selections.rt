@@ -37,7 +37,8 @@ fn held(declared: &Declared, viewer: Option<ClassId>, variable: Option<Variable>
     }
 }
 
-fn is_value(thing: Thing) -> bool
+/// Whether what a variable holds is a value: an object, a thread and a mutex are none.
+pub(crate) fn is_value(thing: Thing) -> bool
     ensures { result ≡ spec.is_value thing }
 {
     match thing {
@@ -80,7 +81,7 @@ fn dot_holder(thing: Thing) -> Holder
     ensures { result ≡ spec.dot_holder thing }
 {
     match thing {
-        Thing::Object(class) => Holder::Class(class),
+        Thing::Object(class) => own_holder(class),
         Thing::Thread => Holder::Thread,
         Thing::Mutex => Holder::Mutex,
         Thing::Value(_) | Thing::Nothing => Holder::Unknown,
