@@ -16,7 +16,7 @@ pub use laws::{
     numbers_are_kept, remainder_stops_with_quotient, results_are_in_range, values_are_kept,
 };
 pub use unary::{apply_one, convert};
-pub use value::{ArithStop, Value};
+pub use value::{ArithStop, Value, flag, number};
 
 #[cfg(test)]
 mod tests;

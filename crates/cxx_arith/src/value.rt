@@ -27,7 +27,8 @@ pub enum ArithStop {
     Shift,
 }
 
-pub(crate) fn number(value: Value) -> i128
+/// The number that a value is.
+pub fn number(value: Value) -> i128
     ensures value { result ≡ numbers.number value }
     ensures wide { IsWide result }
     ensures fits { Fits64 (kinds.is_signed value.kind) result }
@@ -47,7 +48,8 @@ pub(crate) fn value_of(kind: NumKind, number: i128) -> Value
     Value { kind, bits }
 }
 
-pub(crate) fn flag(b: bool) -> Value
+/// A truth value, as the number 0 or 1.
+pub fn flag(b: bool) -> Value
     ensures { result ≡ numbers.flag b }
 {
     Value {
