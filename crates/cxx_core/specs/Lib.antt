@@ -5,6 +5,9 @@ pub mod Meanings
 pub mod ElaboratedExpr
 pub mod ElaboratedStmt
 pub mod ElaboratedProgram
+pub mod ExprView
+pub mod StmtView
+pub mod ProgramView
 pub mod Laws
 pub mod Kept
 pub mod KeptParts

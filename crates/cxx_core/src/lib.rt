@@ -3,6 +3,12 @@
 //! `Meanings`, `ElaboratedExpr`, `ElaboratedStmt` and `ElaboratedProgram` make them of trees.
 #![tactic(auto)]
 
+mod expr;
 mod laws;
+mod program;
+mod stmt;
 
+pub use expr::{Callee, Expr, Left, Member, Object, Variable};
 pub use laws::{examples_elaborate, numbering_keeps_core, numbers_mean_functions};
+pub use program::{Class, Function, FunctionKind, Global, Param, Program, Word};
+pub use stmt::{Mutex, Printed, Source, Stmt};
