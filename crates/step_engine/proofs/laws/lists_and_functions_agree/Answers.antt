@@ -1,5 +1,0 @@
-use Rattle.step_engine.proofs.Turns.{agree}
-use Rattle.step_engine.proofs.laws.lists_and_functions_agree.Goals as goal
-
-pub returns : goal.returns
-returns c = agree

@@ -1,5 +1,0 @@
-use Rattle.step_engine.proofs.Still.{still}
-use Rattle.step_engine.proofs.laws.some_turns_change_nothing.Goals as goal
-
-pub returns : goal.returns
-returns c = still
