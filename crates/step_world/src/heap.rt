@@ -6,6 +6,9 @@ ghost use Rattle.step_world.specs.Objects as in_heap;
 
 use agxx_base::{ClassId, Memory, ObjectId};
 
+/// How many objects may be made.
+pub const OBJECT_LIMIT: usize = 65_536;
+
 /// Why no object was made.
 #[derive(Clone, Copy, Debug, PartialEq, Eq)]
 pub enum HeapError {

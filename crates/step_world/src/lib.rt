@@ -9,5 +9,5 @@ mod world;
 
 pub use change::{Change, Lock};
 pub use entries::Entries;
-pub use heap::{Heap, HeapError};
+pub use heap::{Heap, HeapError, OBJECT_LIMIT};
 pub use world::World;
