@@ -1,6 +1,7 @@
 -- What an item does: the frame after it and an effect, a stop, or a wait. One line an item.
 use Rattle.std.specs.Prelude.{ℕ, true, false, List, ◌∷◌, Option, Some, None}
 use Rattle.agxx_base.specs.declared.kind.NumKind.TheVariants as kind
+use Rattle.agxx_base.specs.declared.place.Place.{Place}
 use Rattle.cxx_arith.specs.Numbers.{number}
 use Rattle.cxx_names.specs.declared.types.ValueType.{ValueType}
 use Rattle.cxx_core.specs.CoreExpr as c
@@ -63,6 +64,10 @@ declare name t None f = stays (bound name (zero_of t) f)
 declare name t (Some (cs.copy from u)) f = stays (bound name (converted t (local_now f from u)) f)
 declare name t (Some (cs.value e)) f = has (it.expr e ∷ it.bind name t ∷ f.items) f
 
+abbrev pub returned : Place → ValueType → CoreSource → Frame → Act
+returned at t (cs.copy from u) f = has (it.leave at ∷ f.items) (kept (converted t (local_now f from u)) f)
+returned at t (cs.value e) f = has (it.expr e ∷ it.keep t ∷ it.leave at ∷ f.items) f
+
 abbrev pub drop_on : Option ValueType → List Item → List Item
 drop_on None is = is
 drop_on (Some t) is = it.drop ∷ is
@@ -80,8 +85,7 @@ stmt s r t (cs.branch e a b) f = has (it.expr e ∷ it.branch a b ∷ f.items) f
 stmt s r t (cs.while e body) f = has (it.expr e ∷ it.loop e body ∷ f.items) f
 stmt s r t (cs.for start e step body) f = has (stmts_on start (it.for_test e step body ∷ f.items)) f
 stmt s r t (cs.return at) f = has (it.leave at ∷ f.items) f
-stmt s r t (cs.return_value at u (cs.copy from v)) f = has (it.leave at ∷ f.items) (kept (converted u (local_now f from v)) f)
-stmt s r t (cs.return_value at u (cs.value e)) f = has (it.expr e ∷ it.keep u ∷ it.leave at ∷ f.items) f
+stmt s r t (cs.return_value at u source) f = returned at u source f
 stmt s r t (cs.delete at class e) f = has (it.expr e ∷ it.delete at class ∷ f.items) f
 stmt s r t (cs.print qs) f = has (printed_on qs f.items) f
 stmt s r t (cs.thread at name g called es) f = has (exprs_on es (it.spawn at name g ∷ f.items)) f

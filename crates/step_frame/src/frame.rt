@@ -1,0 +1,50 @@
+//! The run of a function.
+
+use crate::agenda::Agenda;
+use crate::stack::Stack;
+use agxx_base::{FnId, ObjectId};
+use std::marker::Model;
+use step_machine::Datum;
+use step_world::Entries;
+
+/// The run of a function.
+#[derive(Drop)]
+pub struct Frame<'p> {
+    /// The frame in which a run starts has none.
+    pub function: Option<FnId>,
+    /// Whether protection made its function.
+    pub is_generated: bool,
+    pub this: Option<ObjectId>,
+    /// The locals and parameters so far, by their names.
+    pub locals: Entries<Datum>,
+    /// The threads that it started and has not joined, by their names.
+    pub threads: Entries<u32>,
+    pub values: Stack<Datum>,
+    /// The result.
+    pub kept: Option<Datum>,
+    pub agenda: Agenda<'p>,
+}
+
+impl<'p> Model for Frame<'p> {
+    ghost use Rattle.std.specs.Prelude.{option_map};
+    ghost use Rattle.step_machine.specs.Frame.{Frame};
+    ghost use Rattle.cxx_core.specs.Codes.{core_codes};
+    ghost use Rattle.std.specs.Coded.{codes};
+
+    ghost Value = { Frame };
+
+    ghost coded = { Prim.hlevel (codes, core_codes) };
+
+    ghost use Rattle.step_frame.specs.Works.{number_of, function_of};
+
+    ghost view = { λ frame. record {
+      function = option_map function_of frame.function;
+      is_generated = frame.is_generated;
+      this = option_map number_of frame.this;
+      locals = frame.locals;
+      threads = frame.threads;
+      values = frame.values;
+      kept = frame.kept;
+      items = frame.agenda;
+    } };
+}
