@@ -1,0 +1,106 @@
+//! Which steps are inserted, as far as the program tells it: two tests, one for what protection made and one for what
+//! weaving advice made, both by the names that generated code has.
+
+ghost use Rattle.std.specs.Prelude.{◌≡◌};
+ghost use Rattle.cxx_core.specs.ExprView.{callee_core, left_core, expr_core};
+ghost use Rattle.cxx_core.specs.StmtView.{stmt_core};
+ghost use Rattle.step_machine.specs.Inserted as spec;
+
+use crate::setting::Setting;
+use agxx_base::NameId;
+use cxx_core::{Callee, Expr, Left, Object, Source, Stmt, Variable};
+
+impl<'p> Setting<'p> {
+    /// Whether a call calls a function that protection made.
+    pub fn calls_generated(&self, callee: &Callee) -> bool
+        ensures { result ≡ spec.calls_generated self.now (callee_core callee.now) }
+    {
+        self.begins(callee.name, b"__gop_")
+    }
+
+    /// Whether protection made an expression.
+    pub fn expr_by_protection(&self, expr: &Expr) -> bool
+        ensures { result ≡ spec.expr_by_protection self.now (expr_core expr.now) }
+    {
+        match expr {
+            Expr::Call(callee, _) => self.calls_generated(callee),
+            _ => false,
+        }
+    }
+
+    /// Whether protection made a statement.
+    pub fn stmt_by_protection(&self, stmt: &Stmt) -> bool
+        ensures { result ≡ spec.stmt_by_protection self.now (stmt_core stmt.now) }
+    {
+        match stmt {
+            Stmt::Run(expr) => self.expr_by_protection(expr),
+            Stmt::ReturnValue(_, _, Source::Copy(name, _)) => {
+                self.is_numbered(*name, b"__gop_r_")
+            }
+            _ => false,
+        }
+    }
+
+    /// Whether a name is that of a parameter of a level.
+    pub fn is_level_parameter(&self, name: NameId) -> bool
+        ensures { result ≡ spec.is_level_parameter self.now name.0 }
+    {
+        self.is_numbered(name, b"__ag_a")
+    }
+
+    /// Whether a call calls a level at a construction or destruction.
+    pub fn calls_body_level(&self, callee: &Callee) -> bool
+        ensures { result ≡ spec.calls_body_level self.now (callee_core callee.now) }
+    {
+        !callee.is_global && self.is_numbered(callee.name, b"__ag_c_")
+    }
+
+    fn is_parameter_read(&self, left: &Left) -> bool
+        ensures { result ≡ spec.is_parameter_read self.now (left_core left.now) }
+    {
+        match left {
+            Left::Variable(Variable::Local(name, _)) => self.is_level_parameter(*name),
+            Left::Variable(Variable::Global(is_global, name, _)) => {
+                !*is_global && self.is_level_parameter(*name)
+            }
+            Left::Member(member) => match member.object {
+                Object::Own => self.is_level_parameter(member.name),
+                _ => false,
+            },
+        }
+    }
+
+    /// Whether weaving advice made an expression.
+    pub fn expr_by_advice(&self, expr: &Expr) -> bool
+        ensures { result ≡ spec.expr_by_advice self.now (expr_core expr.now) }
+    {
+        match expr {
+            Expr::Read(left) => self.is_parameter_read(left),
+            Expr::Call(callee, _) => self.calls_body_level(callee),
+            _ => false,
+        }
+    }
+
+    fn runs_body_level(&self, expr: &Expr) -> bool
+        ensures { result ≡ spec.runs_body_level self.now (expr_core expr.now) }
+    {
+        match expr {
+            Expr::Call(callee, _) => self.calls_body_level(callee),
+            _ => false,
+        }
+    }
+
+    /// Whether weaving advice made a statement.
+    pub fn stmt_by_advice(&self, stmt: &Stmt) -> bool
+        ensures { result ≡ spec.stmt_by_advice self.now (stmt_core stmt.now) }
+    {
+        match stmt {
+            Stmt::Run(expr) => self.runs_body_level(expr),
+            Stmt::Declare(name, _, None) => self.is_text(*name, b"__ag_r"),
+            Stmt::Declare(name, _, Some(Source::Copy(from, _))) => {
+                self.is_level_parameter(*from) && !self.begins(*name, b"__gop_r_")
+            }
+            _ => false,
+        }
+    }
+}
