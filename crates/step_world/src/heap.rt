@@ -58,9 +58,10 @@ pub trait Heap: Drop {
         ensures { in_heap.word_in (objects self.now) object.0 word ≡ Some result };
 
     /// Lets a word have these bits.
-    fn store(&mut self, object: ObjectId, word: u32, bits: u64)
+    fn store(&mut self, object: ObjectId, word: u32, bits: u64) -> Result<(), Memory>
         requires { in_heap.has_word (objects self.old) object.0 word ≡ true }
-        ensures { objects self.new ≡ in_heap.altered (objects self.old) object.0 (with_word word bits) };
+        ensures ok { OnOk result (objects self.new ≡ in_heap.altered (objects self.old) object.0 (with_word word bits)) }
+        ensures err { OnErr result (objects self.new ≡ objects self.old) };
 
     /// Who holds a mutex of a live object.
     fn holder(&self, object: ObjectId, lock: u32) -> Option<u32>

@@ -148,10 +148,7 @@ impl<H: Heap> World<H> {
         ensures err { OnErr result (self.new ≡ self.old) }
     {
         match change {
-            Change::Store(object, word, bits) => {
-                self.store(object, word, bits);
-                Ok(())
-            }
+            Change::Store(object, word, bits) => self.store(object, word, bits),
             Change::Assign(name, value) => self.variables.set(name.0, value),
             Change::Show(text) => self.print(text),
             Change::Print(value) => self.print(Buffer::new().format(number(value)).as_bytes()),
@@ -177,11 +174,14 @@ impl<H: Heap> World<H> {
     }
 
     #[tactic(auto, using(crate::proofs::Unstored::unstored))]
-    fn store(&mut self, object: ObjectId, word: u32, bits: u64)
-        ensures { self.new ≡ object_changed object.0 (with_word word bits) self.old }
+    fn store(&mut self, object: ObjectId, word: u32, bits: u64) -> Result<(), Memory>
+        ensures ok { OnOk result (self.new ≡ object_changed object.0 (with_word word bits) self.old) }
+        ensures err { OnErr result (self.new ≡ self.old) }
     {
         if self.heap.has_word(object, word) {
-            self.heap.store(object, word, bits);
+            self.heap.store(object, word, bits)
+        } else {
+            Ok(())
         }
     }
 

@@ -96,8 +96,9 @@ impl Heap for WordHeap {
         self.object(object).load(word)
     }
 
-    fn store(&mut self, object: ObjectId, word: u32, bits: u64) {
+    fn store(&mut self, object: ObjectId, word: u32, bits: u64) -> Result<(), Memory> {
         self.objects[object.0 as usize].store(word, bits);
+        Ok(())
     }
 
     fn holder(&self, object: ObjectId, lock: u32) -> Option<u32> {

@@ -1,0 +1,118 @@
+//! Objects whose words are found by their numbers.
+
+ghost use Rattle.std.specs.Prelude.{◌≡◌, ◌++◌, [], ◌∷◌, slice_get, true, OnOk, OnErr};
+ghost use Rattle.step_machine.specs.World.{new_object};
+ghost use Rattle.step_world.specs.Objects as in_heap;
+
+use crate::object::MapObject;
+use agxx_base::{ClassId, Memory, ObjectId};
+use std::alloc::Global;
+use std::marker::Model;
+use step_world::{Heap, HeapError, OBJECT_LIMIT};
+
+/// A heap that keeps the words of each object by their numbers. Each of its operations takes the same time however many
+/// objects there are.
+#[derive(Drop)]
+pub struct MapHeap {
+    alloc: Global,
+    objects: Vec<MapObject>,
+}
+
+impl Model for MapHeap {
+    ghost use Rattle.std.specs.Prelude.{List};
+    ghost use Rattle.step_machine.specs.World.{Object};
+
+    ghost Value = { List Object };
+
+    ghost view = { λ heap. heap.objects.items };
+}
+
+impl MapHeap {
+    /// A heap with no objects, which takes no memory.
+    pub fn new(alloc: Global) -> MapHeap
+        ensures { result ≡ [] }
+    {
+        MapHeap {
+            alloc,
+            objects: Vec::new(alloc),
+        }
+    }
+
+    fn push(&mut self, class: ClassId, words: u32) -> Result<(), Memory>
+        ensures ok { OnOk result (self.new ≡ self.old ++ new_object class words ∷ []) }
+        ensures err { OnErr result (self.new ≡ self.old) }
+    {
+        self.objects.push(MapObject::new(self.alloc, class, words))?;
+        Ok(())
+    }
+
+    // A live object.
+    fn object(&self, object: ObjectId) -> &MapObject
+        requires { in_heap.is_live self.now object.0 ≡ true }
+        ensures { slice_get self.now object.0 ≡ Some result.now }
+    {
+        &self.objects[object.0 as usize]
+    }
+}
+
+impl Heap for MapHeap {
+    ghost objects = { λ heap. heap };
+
+    fn create(&mut self, class: ClassId, words: u32) -> Result<ObjectId, HeapError> {
+        let number = self.objects.len();
+        if number >= OBJECT_LIMIT {
+            return Err(HeapError::Full);
+        }
+        match self.push(class, words) {
+            Ok(()) => Ok(ObjectId(number as u32)),
+            Err(Memory) => Err(HeapError::Memory),
+        }
+    }
+
+    fn kill(&mut self, object: ObjectId) {
+        self.objects[object.0 as usize].kill();
+    }
+
+    fn is_live(&self, object: ObjectId) -> bool {
+        match self.objects.get(object.0 as usize) {
+            None => false,
+            Some(object) => object.is_live(),
+        }
+    }
+
+    fn class_of(&self, object: ObjectId) -> ClassId {
+        self.object(object).class()
+    }
+
+    fn has_word(&self, object: ObjectId, word: u32) -> bool {
+        match self.objects.get(object.0 as usize) {
+            None => false,
+            Some(object) => object.is_live() && word < object.len(),
+        }
+    }
+
+    fn load(&self, object: ObjectId, word: u32) -> u64 {
+        self.object(object).load(word)
+    }
+
+    fn store(&mut self, object: ObjectId, word: u32, bits: u64) -> Result<(), Memory> {
+        self.objects[object.0 as usize].store(word, bits)
+    }
+
+    fn holder(&self, object: ObjectId, lock: u32) -> Option<u32> {
+        self.object(object).holder(lock)
+    }
+
+    fn set_holder(
+        &mut self,
+        object: ObjectId,
+        lock: u32,
+        holder: Option<u32>,
+    ) -> Result<(), Memory> {
+        self.objects[object.0 as usize].set_holder(lock, holder)
+    }
+
+    fn made(&self) -> usize {
+        self.objects.len()
+    }
+}
