@@ -2,7 +2,7 @@
 use Rattle.std.specs.Prelude.{ℕ, true, false, List, ◌∷◌, Option, Some, None}
 use Rattle.agxx_base.specs.declared.kind.NumKind.TheVariants as kind
 use Rattle.agxx_base.specs.declared.place.Place.{Place}
-use Rattle.cxx_arith.specs.Numbers.{number}
+use Rattle.cxx_arith.specs.Numbers.{number, convert_of}
 use Rattle.cxx_names.specs.declared.types.ValueType.{ValueType}
 use Rattle.cxx_core.specs.CoreExpr as c
 use Rattle.cxx_core.specs.CoreExpr.{CoreExpr, CoreObject, type_of}
@@ -100,7 +100,7 @@ act s r t (it.make at o class es) f = objects.make s r.depth r.class at o class 
 act s r t (it.build at o class) f = objects.build s r.depth r.class at o class f
 act s r t (it.unmake at o class) f = objects.unmake s r.depth r.class r.is_busy at o class f
 act s r t it.run f = enter.run s r.depth f
-act s r t it.finish f = goes f (on.end (number (as_number (first f.values))))
+act s r t it.finish f = goes f (on.end (number (convert_of kind.I32 (as_number (first f.values)))))
 act s r t (it.stmt x) f = stmt s r t x f
 act s r t (it.expr e) f = expr s r e f
 act s r t (it.op_one at o) f = values.op_one at o f

@@ -1,10 +1,11 @@
 -- Items on mutexes and threads.
-use Rattle.std.specs.Prelude.{ℕ, nat_lt, nat_eq, Bool, true, false, Option, Some, None, if◌then◌else◌}
+use Rattle.std.specs.Prelude.{ℕ, nat_lt, nat_eq, Bool, true, false, Option, Some, None, Result, Ok, Err, if◌then◌else◌}
 use Rattle.agxx_base.specs.declared.ids.ClassId.{ClassId}
 use Rattle.agxx_base.specs.declared.place.Place.{Place}
 use Rattle.cxx_core.specs.CoreStmt as cs
 use Rattle.cxx_core.specs.CoreStmt.{CoreMutex}
 use Rattle.cxx_core.specs.CoreProgram.{CoreFunction}
+use Rattle.step_machine.specs.declared.outcome.Stop.{Stop}
 use Rattle.step_machine.specs.declared.outcome.Stop.TheVariants as stop
 use Rattle.step_machine.specs.Entries.{entry, with_entry, without_entry}
 use Rattle.step_machine.specs.Setting.{Setting, function_at, mutex_number}
@@ -30,27 +31,36 @@ is_holder t (Some holder) = nat_eq holder t
 abbrev pub unlock_by : ℕ → Place → Lock → Option ℕ → Frame → Act
 unlock_by t at m holder f = if is_holder t holder then goes f (on.change (on.free m)) else stops stop.NotHeld at
 
--- a mutex of a live object
-abbrev pub on_live : Place → Option ClassId → Act → Act
-on_live at None act = stops stop.Dead at
-on_live at (Some class) act = act
+-- the mutex of an object that is live
+abbrev pub mutex_by : Lock → Option ClassId → Result Lock Stop
+mutex_by l None = Err stop.Dead
+mutex_by l (Some class) = Ok l
+
+module _ (holder : Lock → Option ℕ) (t : ℕ) (at : Place) where
+  abbrev pub lock_found : Result Lock Stop → Frame → Act
+  lock_found (Err cause) f = stops cause at
+  lock_found (Ok l) f = lock_by t at l (holder l) f
+
+  abbrev pub unlock_found : Result Lock Stop → Frame → Act
+  unlock_found (Err cause) f = stops cause at
+  unlock_found (Ok l) f = unlock_by t at l (holder l) f
 
 module _ (s : Setting) (class_of : ℕ → Option ClassId) where
-  -- what is done with a mutex
-  abbrev pub with_member : Place → ClassId → ℕ → (Lock → Act) → Option ℕ → Act
-  with_member at class name act None = stops stop.Null at
-  with_member at class name act (Some o) = on_live at (class_of o) (act (on.inside o (mutex_number s class name)))
+  abbrev pub member_mutex : ClassId → ℕ → Option ℕ → Result Lock Stop
+  member_mutex class name None = Err stop.Null
+  member_mutex class name (Some o) = mutex_by (on.inside o (mutex_number s class name)) (class_of o)
 
-  abbrev pub with_mutex : Place → CoreMutex → (Lock → Act) → Frame → Act
-  with_mutex at (cs.global_mutex name) act f = act (on.shared name)
-  with_mutex at (cs.member_mutex class name) act f = with_member at class name act f.this
+  -- the mutex that is meant in a frame, or why there is none
+  abbrev pub mutex_now : CoreMutex → Frame → Result Lock Stop
+  mutex_now (cs.global_mutex name) f = Ok (on.shared name)
+  mutex_now (cs.member_mutex class name) f = member_mutex class name f.this
 
   -- by thread t
   abbrev pub lock : (Lock → Option ℕ) → ℕ → Place → CoreMutex → Frame → Act
-  lock holder t at m f = with_mutex at m (λ l. lock_by t at l (holder l) f) f
+  lock holder t at m f = lock_found holder t at (mutex_now m f) f
 
   abbrev pub unlock : (Lock → Option ℕ) → ℕ → Place → CoreMutex → Frame → Act
-  unlock holder t at m f = with_mutex at m (λ l. unlock_by t at l (holder l) f) f
+  unlock holder t at m f = unlock_found holder t at (mutex_now m f) f
 
 -- ---- threads
 

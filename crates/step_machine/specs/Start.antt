@@ -1,6 +1,7 @@
 -- A machine before its first step. Global objects are there, all zero, and the start frame constructs them in order of
 -- declaration, runs `main` and destroys them in reverse order.
 use Rattle.std.specs.Prelude.{ℕ, suc, false, List, [], ◌∷◌, Some, None}
+use Rattle.cxx_names.specs.Tables.{with_name}
 use Rattle.cxx_core.specs.CoreProgram as cp
 use Rattle.cxx_core.specs.CoreProgram.{CoreGlobal}
 use Rattle.step_machine.specs.declared.datum.Datum.{Datum}
@@ -48,16 +49,17 @@ objects_of s [] = []
 objects_of s (cp.object at name class arguments ∷ gs) = new_object class (word_count s (Some class)) ∷ objects_of s gs
 objects_of s (_ ∷ gs) = objects_of s gs
 
-abbrev pub variables_of : List CoreGlobal → List (ℕ × Datum)
-variables_of [] = []
-variables_of (cp.number name v ∷ gs) = (name, datum.Number v) ∷ variables_of gs
-variables_of (cp.pointer name class ∷ gs) = (name, datum.Null) ∷ variables_of gs
-variables_of (_ ∷ gs) = variables_of gs
+-- of several of one name the first counts
+abbrev pub variables_from : List (ℕ × Datum) → List CoreGlobal → List (ℕ × Datum)
+variables_from vs [] = vs
+variables_from vs (cp.number name v ∷ gs) = variables_from (with_name vs name (datum.Number v)) gs
+variables_from vs (cp.pointer name class ∷ gs) = variables_from (with_name vs name datum.Null) gs
+variables_from vs (_ ∷ gs) = variables_from vs gs
 
 abbrev pub start_world : Setting → World
 start_world s = record {
   objects = objects_of s s.program.globals;
-  variables = variables_of s.program.globals;
+  variables = variables_from [] s.program.globals;
   holders = [];
   output = [];
 }
