@@ -1,7 +1,9 @@
 -- The items that entries of an agenda stand for.
-use Rattle.std.specs.Prelude.{◌≡◌, List, [], ◌∷◌, map, Option, MatchOption}
+use Rattle.std.specs.Prelude.{◌≡◌, List, [], ◌∷◌, map, Bool, true, false, Option, MatchOption, if◌then◌else◌}
 use Rattle.cxx_core.specs.ExprView.{exprs_core}
 use Rattle.cxx_core.specs.StmtView.{stmts_core, printed_core}
+use Rattle.step_machine.specs.Setting.{Setting}
+use Rattle.step_machine.specs.Inserted.{is_body_level_call}
 use Rattle.step_machine.specs.Item.{Item, stmts_on, exprs_on, printed_on}
 use Rattle.step_frame.specs.declared.agenda.Entry.{Entry}
 use Rattle.step_frame.specs.declared.agenda.Entry.TheVariants as entry
@@ -24,3 +26,12 @@ abbrev pub IsFirst : Entry → List Entry → List Entry → Option Work → Typ
 IsFirst e old new first =
     MatchOption first ((entry_on e (entries_on old) ≡ entries_on old) × (new ≡ old))
     (λ w. entry_on e (entries_on old) ≡ item_of w ∷ entries_on new)
+
+-- whether an entry is a call of a level at a construction or destruction
+abbrev pub is_call : Setting → Entry → Bool
+is_call s (entry.One w) = is_body_level_call s (item_of w)
+is_call s _ = false
+
+abbrev pub any_call : Setting → List Entry → Bool
+any_call s [] = false
+any_call s (e ∷ es) = if is_call s e then true else any_call s es

@@ -1,3 +1,4 @@
+pub mod Under
 pub mod Works
 pub mod Agendas
 pub mod Outcomes

@@ -5,7 +5,9 @@ ghost use Rattle.cxx_core.specs.ExprView.{exprs_core};
 ghost use Rattle.cxx_core.specs.StmtView.{stmts_core, printed_core};
 ghost use Rattle.step_machine.specs.Item.{stmts_on, exprs_on, printed_on};
 ghost use Rattle.step_frame.specs.Works.{item_of};
-ghost use Rattle.step_frame.specs.Agendas.{entries_on, IsFirst};
+ghost use Rattle.std.specs.List.{list_any};
+ghost use Rattle.step_machine.specs.Inserted.{is_body_level_call};
+ghost use Rattle.step_frame.specs.Agendas.{entries_on, IsFirst, is_call, any_call};
 ghost use Rattle.step_frame.specs.declared.agenda.Entry.TheVariants as entry;
 
 use crate::stack::Stack;
@@ -14,6 +16,7 @@ use agxx_base::Memory;
 use cxx_core::{Expr, Printed, Stmt};
 use std::alloc::Global;
 use std::marker::Model;
+use step_setting::Setting;
 
 /// One item, or several that stand one after the other in the program.
 #[derive(Clone, Copy)]
@@ -98,6 +101,40 @@ impl<'p> Agenda<'p> {
     {
         pop(&mut self.entries)
     }
+
+    /// Whether a call of a level at a construction or destruction is among what is left to do.
+    #[tactic(auto, using(crate::proofs::Calls::calls_are))]
+    pub fn calls_body_level(&self, setting: &Setting) -> bool
+        ensures { result ≡ list_any (is_body_level_call setting.now) self.now }
+    {
+        any_call(&self.entries, setting)
+    }
+}
+
+/// Whether an entry is a call of a level at a construction or destruction.
+fn is_call(entry: Entry<'_>, setting: &Setting) -> bool
+    ensures { result ≡ is_call setting.now entry.entry }
+{
+    match entry {
+        Entry::One(Work::Call(callee)) => setting.calls_body_level(&callee),
+        _ => false,
+    }
+}
+
+/// Whether some entry is such a call.
+fn any_call(entries: &Stack<Entry<'_>>, setting: &Setting) -> bool
+    ensures { result ≡ any_call setting.now entries.now }
+{
+    let list = entries.as_slice();
+    let mut index = list.len();
+    while index > 0 {
+        index -= 1;
+        let entry = list[index];
+        if is_call(entry, setting) {
+            return true;
+        }
+    }
+    false
 }
 
 /// Takes the next item off entries.

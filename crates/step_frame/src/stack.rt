@@ -1,7 +1,8 @@
 //! A stack.
 
-ghost use Rattle.std.specs.Prelude.{◌≡◌, [], ◌∷◌, OnOk, OnErr, MatchOption};
+ghost use Rattle.std.specs.Prelude.{◌≡◌, [], ◌∷◌, reverse, ◌↔◌, IsTrue, OnOk, OnErr, MatchOption};
 ghost use Rattle.step_machine.specs.Data.{first, rest};
+ghost use Rattle.step_frame.specs.Under.{under};
 
 use agxx_base::{Memory, NumKind};
 use cxx_arith::Value;
@@ -34,6 +35,20 @@ impl<T> Stack<T> {
         Stack {
             items: Vec::new(alloc),
         }
+    }
+
+    /// Whether there is nothing.
+    pub fn is_empty(&self) -> bool
+        ensures { IsTrue result ↔ (self.now ≡ []) }
+    {
+        self.items.is_empty()
+    }
+
+    /// From the lowest to the top.
+    pub fn as_slice(&self) -> &[T]
+        ensures { reverse result.now ≡ self.now }
+    {
+        self.items.as_slice()
     }
 
     /// Takes the top, if there is one.
@@ -75,16 +90,24 @@ impl Stack<Datum> {
         }
     }
 
+    /// What stands so many places below the top, or 0.
+    #[tactic(auto, using(crate::proofs::Stacks::under_is, crate::proofs::Stacks::under_past))]
+    pub fn under(&self, places: usize) -> Datum
+        ensures { result ≡ first (under places self.now) }
+    {
+        let count = self.items.len();
+        if places < count {
+            self.items[count - 1 - places]
+        } else {
+            nothing()
+        }
+    }
+
     /// What stands below the top, or 0.
     pub fn below(&self) -> Datum
         ensures { result ≡ first (rest self.now) }
     {
-        let count = self.items.len();
-        if count < 2 {
-            nothing()
-        } else {
-            self.items[count - 2]
-        }
+        self.under(1)
     }
 
     /// Takes the top, or gives 0.

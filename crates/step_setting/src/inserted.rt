@@ -33,7 +33,7 @@ impl<'p> Setting<'p> {
         ensures { result ≡ spec.stmt_by_protection self.now (stmt_core stmt.now) }
     {
         match stmt {
-            Stmt::Run(expr) => self.expr_by_protection(expr),
+            Stmt::Run(expr) => self.expr_by_protection(expr.get()),
             Stmt::ReturnValue(_, _, Source::Copy(name, _)) => {
                 self.is_numbered(*name, b"__gop_r_")
             }
@@ -55,7 +55,8 @@ impl<'p> Setting<'p> {
         !callee.is_global && self.is_numbered(callee.name, b"__ag_c_")
     }
 
-    fn is_parameter_read(&self, left: &Left) -> bool
+    /// Whether it is read as the parameter of a level.
+    pub fn is_parameter_read(&self, left: &Left) -> bool
         ensures { result ≡ spec.is_parameter_read self.now (left_core left.now) }
     {
         match left {
@@ -95,7 +96,7 @@ impl<'p> Setting<'p> {
         ensures { result ≡ spec.stmt_by_advice self.now (stmt_core stmt.now) }
     {
         match stmt {
-            Stmt::Run(expr) => self.runs_body_level(expr),
+            Stmt::Run(expr) => self.runs_body_level(expr.get()),
             Stmt::Declare(name, _, None) => self.is_text(*name, b"__ag_r"),
             Stmt::Declare(name, _, Some(Source::Copy(from, _))) => {
                 self.is_level_parameter(*from) && !self.begins(*name, b"__gop_r_")

@@ -1,8 +1,8 @@
 //! Things by numbers.
 
-ghost use Rattle.std.specs.Prelude.{◌≡◌, [], ◌∷◌, ◌++◌, None, OnOk, OnErr};
+ghost use Rattle.std.specs.Prelude.{◌≡◌, [], ◌∷◌, ◌++◌, None, OnOk, OnErr, ◌↔◌, IsTrue};
 ghost use Rattle.std.specs.Option.{option_copied};
-ghost use Rattle.step_machine.specs.Entries.{entry, with_entry};
+ghost use Rattle.step_machine.specs.Entries.{entry, with_entry, without_entry};
 
 use agxx_base::Memory;
 use indexmap::IndexMap;
@@ -34,6 +34,13 @@ impl<V> Entries<V> {
         }
     }
 
+    /// Whether no number stands for anything.
+    pub fn is_empty(&self) -> bool
+        ensures { IsTrue result ↔ (self.now ≡ []) }
+    {
+        self.entries.is_empty()
+    }
+
     /// What a number stands for.
     pub fn get(&self, key: u32) -> Option<&V>
         ensures { option_copied result ≡ entry self.now key }
@@ -61,5 +68,12 @@ impl<V: Drop> Entries<V> {
         ensures err { OnErr result (self.new ≡ self.old) }
     {
         self.set(key, thing)
+    }
+
+    /// Lets a number stand for nothing.
+    pub fn remove(&mut self, key: u32)
+        ensures { self.new ≡ without_entry self.old key }
+    {
+        self.entries.shift_remove(&key);
     }
 }

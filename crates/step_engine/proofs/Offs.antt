@@ -1,0 +1,40 @@
+-- A thread that has nothing to do.
+use Rattle.std.proofs.Common.{◌≡◌, ℕ, List, [], ◌∷◌, Bool, true, false, Option, Some, None, slice_get, slice_set, refl, ap, sym, ◌∙◌, get_or, subst, MatchOption}
+use Rattle.std.proofs.lemmas.Option.{get_or_from_slice_get}
+use Rattle.std.proofs.lemmas.List.{set-get_or}
+use Rattle.step_machine.specs.Frame.{Frame}
+use Rattle.step_machine.specs.Item.{Item}
+use Rattle.step_machine.specs.Turn.{Threads, put_back}
+use Rattle.step_engine.specs.Turns.{has_items, are_some}
+use Rattle.step_machine.specs.Machine.{Off, taken_off, off_at, off_frames, off_items}
+
+off-items : (t : ℕ) (ths : Threads) (f : Frame) (fs : List Frame) (is : List Item) → are_some is ≡ false → off_items t ths f fs is ≡ None
+off-items t ths f fs [] p = refl
+off-items t ths f fs (i ∷ is) p = absurd (cc)
+
+off-frames : (t : ℕ) (ths : Threads) (fs : List Frame) → has_items fs ≡ false → off_frames t ths fs ≡ None
+off-frames t ths [] p = refl
+off-frames t ths (f ∷ fs) p = off-items t ths f fs f.items p
+
+pub off-none : (t : ℕ) (ths : Threads) (fs : List Frame) → slice_get ths t ≡ Some fs → has_items fs ≡ false → taken_off t ths ≡ None
+off-none t ths fs e p = ap (off_at t ths) e ∙ off-frames t ths fs p
+
+pub set-same : (t : ℕ) (ths : Threads) (fs : List Frame) → slice_get ths t ≡ Some fs → slice_set ths t fs ≡ ths
+set-same t ths fs e = ap (slice_set ths t) (sym (get_or_from_slice_get ths t fs fs e)) ∙ set-get_or ths t fs
+
+pub off-some : (t : ℕ) (ths : Threads) (old : List Frame) (i : Item) (f : Frame) (fs : List Frame)
+    → slice_get ths t ≡ Some old → old ≡ put_back i f ∷ fs → taken_off t ths ≡ Some (f, i, slice_set ths t fs)
+off-some t ths old i f fs e p = ap (off_at t ths) (e ∙ ap Some p)
+
+pub idle : (t : ℕ) (ths : Threads) (old new : List Frame) → slice_get ths t ≡ Some old → (new ≡ old) × (has_items old ≡ false) → (slice_set ths t new ≡ ths) × (taken_off t ths ≡ None)
+idle t ths old new e p = (ap (slice_set ths t) p.0 ∙ set-same t ths old e, off-none t ths old e p.1)
+
+-- what `take` answered
+abbrev pub Took : List Frame → List Frame → Option (Frame × Item) → Type 0
+Took old new o = MatchOption o ((new ≡ old) × (has_items old ≡ false)) (λ r. old ≡ put_back r.1 r.0 ∷ new)
+
+pub took-some : (old new : List Frame) (o : Option (Frame × Item)) (r : Frame × Item) → Took old new o → o ≡ Some r → old ≡ put_back r.1 r.0 ∷ new
+took-some old new o r m e = subst (Took old new) e m
+
+pub took-none : (old new : List Frame) (o : Option (Frame × Item)) → Took old new o → o ≡ None → (new ≡ old) × (has_items old ≡ false)
+took-none old new o m e = subst (Took old new) e m
