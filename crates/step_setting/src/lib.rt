@@ -10,3 +10,6 @@ mod tables;
 mod texts;
 
 pub use setting::Setting;
+
+#[cfg(test)]
+mod tests;
