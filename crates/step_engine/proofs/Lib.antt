@@ -1,3 +1,4 @@
 mod Bindings
 mod ExitValues
 mod Offs
+mod Starts

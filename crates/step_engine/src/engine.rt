@@ -1,22 +1,20 @@
 //! A run of a program.
 
-ghost use Rattle.std.specs.Prelude.{◌≡◌, [], ◌∷◌, ◌++◌, map, IfOk, OnOk, OnErr};
-ghost use Rattle.cxx_core.specs.ProgramView.{global_core};
+ghost use Rattle.std.specs.Prelude.{◌≡◌, ◌<◌, [], length, IfOk, OnOk, OnErr};
 ghost use Rattle.step_machine.specs.Machine.{next, after, kind_of, state_after};
-ghost use Rattle.step_machine.specs.Start.{start, start_frame, start_world, makes_on, unmakes_on};
+ghost use Rattle.step_machine.specs.Start.{start};
 ghost use Rattle.step_engine.specs.Effects.{turn_of};
-ghost use Rattle.step_engine.specs.Starts.{objects_from, with_objects, with_variables};
 
 use crate::effect::Turn;
+use crate::start::{start_frame, start_world};
 use crate::turns::turn;
-use agxx_base::{Memory, NameId, ObjectId};
-use cxx_core::Global as GlobalItem;
+use agxx_base::Memory;
 use std::alloc::Global;
 use std::marker::Model;
-use step_frame::{Agenda, Frame, Stack, Thread, Work};
-use step_machine::{Datum, State, StepKind};
+use step_frame::Thread;
+use step_machine::{State, StepKind};
 use step_setting::Setting;
-use step_world::{Entries, Heap, World};
+use step_world::{Heap, World};
 
 /// A run of a program, which threads take turns in.
 #[derive(Drop)]
@@ -70,6 +68,25 @@ fn state_after(turn: &Turn) -> State
 }
 
 impl<'p, H: Heap> Engine<'p, H> {
+    /// A run before its first turn, over a heap that has made no object.
+    pub fn start(alloc: Global, setting: &'p Setting<'p>, heap: H) -> Result<Engine<'p, H>, Memory>
+        requires { H.objects heap ≡ [] }
+        ensures { IfOk result (λ engine. engine ≡ start setting.now) }
+    {
+        let world = start_world(alloc, setting, heap)?;
+        let mut first = Thread::new(alloc);
+        first.push(start_frame(alloc, setting.program().globals.as_slice())?)?;
+        let mut threads = Vec::new(alloc);
+        threads.push(first)?;
+        Ok(Engine {
+            alloc,
+            setting,
+            threads,
+            world,
+            state: State::Running,
+        })
+    }
+
     /// The state after a turn, whose frames are already put.
     fn apply(&mut self, thread: u32, turn: Turn<'p>) -> Result<(), Memory>
         ensures { OnOk result (self.new ≡ after thread (turn_of turn.entry) self.old) }
@@ -96,8 +113,13 @@ impl<'p, H: Heap> Engine<'p, H> {
         requires running { self.old.state ≡ State.Running }
         ensures { IfOk result (λ kind. (self.new, kind) ≡ next self.old thread) }
     {
-        let (turn, is_inserted) =
-            turn(self.alloc, self.setting, &self.world, thread, &mut self.threads)?;
+        let (turn, is_inserted) = turn(
+            self.alloc,
+            self.setting,
+            &self.world,
+            thread,
+            &mut self.threads,
+        )?;
         let kind = kind(&turn, is_inserted);
         self.apply(thread, turn)?;
         Ok(kind)

@@ -5,7 +5,13 @@
 mod act;
 mod calls;
 mod effect;
+mod engine;
 mod enter;
+mod inserted;
 mod members;
 mod objects;
+mod start;
 mod threads;
+mod turns;
+
+pub use engine::Engine;

@@ -1,6 +1,6 @@
 //! The turn of a thread.
 
-ghost use Rattle.std.specs.Prelude.{◌≡◌, ◌∷◌, ◌<◌, length, false, Some, None, slice_get, IfOk, OnOk, MatchOption};
+ghost use Rattle.std.specs.Prelude.{◌≡◌, ◌∷◌, ◌<◌, length, Bool, false, Some, None, slice_get, IfOk, OnOk, MatchOption};
 ghost use Rattle.step_machine.specs.Machine.{taken_off, put_at, turned};
 ghost use Rattle.step_machine.specs.Turn.{handed, settled, put_back};
 ghost use Rattle.step_frame.specs.Works.{item_of};
@@ -158,7 +158,15 @@ pub(crate) fn turn<'p, H: Heap>(
         None => Ok((Turn::Idle, false)),
         Some((mut frame, work)) => {
             let inserted = is_inserted(setting, work, &frame);
-            let effect = act(alloc, setting, world, threads.as_slice(), thread, work, &mut frame)?;
+            let effect = act(
+                alloc,
+                setting,
+                world,
+                threads.as_slice(),
+                thread,
+                work,
+                &mut frame,
+            )?;
             if thread as usize >= threads.len() {
                 return Err(Memory);
             }

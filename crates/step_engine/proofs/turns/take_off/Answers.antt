@@ -6,11 +6,11 @@ use Rattle.step_engine.proofs.turns.take_off.Goals as goal
 pub returns-in-None : goal.returns-in-None
 returns-in-None c =
     idle c.args.thread c.args.threads.now.items c.index_mut.result.now c.take.new.frames
-      (slice_get_read c.args.threads.now.items _ c.args.thread c.index_mut.result.now refl c.requires c.index_mut.ensures.value)
-      (took-none c.index_mut.result.now c.take.new.frames c.in_ok-take.field-0 c.in_ok-take.ensures c.in-None.is)
+    (slice_get_read c.args.threads.now.items _ c.args.thread c.index_mut.result.now refl c.requires c.index_mut.ensures.value)
+    (took-none c.index_mut.result.now c.take.new.frames c.in_ok-take.field-0 c.in_ok-take.ensures c.in-None.is)
 
 pub returns-in-Some : goal.returns-in-Some
 returns-in-Some c =
     off-some c.args.thread c.args.threads.now.items c.index_mut.result.now c.in-Some.taken.1 c.in-Some.taken.0 c.take.new.frames
-      (slice_get_read c.args.threads.now.items _ c.args.thread c.index_mut.result.now refl c.requires c.index_mut.ensures.value)
-      (took-some c.index_mut.result.now c.take.new.frames c.in_ok-take.field-0 c.in-Some.taken c.in_ok-take.ensures c.in-Some.is)
+    (slice_get_read c.args.threads.now.items _ c.args.thread c.index_mut.result.now refl c.requires c.index_mut.ensures.value)
+    (took-some c.index_mut.result.now c.take.new.frames c.in_ok-take.field-0 c.in-Some.taken c.in_ok-take.ensures c.in-Some.is)

@@ -1,0 +1,27 @@
+-- A world that gets the globals one by one is that of the start.
+use Rattle.std.proofs.Common.{◌≡◌, ℕ, List, [], ◌∷◌, ◌++◌, Some, refl, ap, sym, ◌∙◌}
+use Rattle.std.proofs.lemmas.List.{append_assoc, append-nil}
+use Rattle.cxx_core.specs.CoreProgram as cp
+use Rattle.cxx_core.specs.CoreProgram.{CoreGlobal}
+use Rattle.step_machine.specs.Setting.{Setting, word_count}
+use Rattle.step_machine.specs.World.{World, Object, new_object}
+use Rattle.step_machine.specs.Start.{objects_of, variables_from, start_world}
+use Rattle.step_world.specs.Worlds.{empty_world, created}
+use Rattle.step_engine.specs.Starts.{with_global, with_globals}
+
+abbrev both : Setting → World → List CoreGlobal → World
+both s w gs = record w { objects = w.objects ++ objects_of s gs; variables = variables_from w.variables gs }
+
+pub each : (s : Setting) (gs : List CoreGlobal) (w : World) → with_globals s gs w ≡ both s w gs
+each s [] w = ap (λ os. record w { objects = os }) (sym (append-nil w.objects))
+each s (cp.number name v ∷ gs) w = each s gs (with_global s (cp.number name v) w)
+each s (cp.pointer name class ∷ gs) w = each s gs (with_global s (cp.pointer name class) w)
+each s (cp.object at name class arguments ∷ gs) w =
+    each s gs (with_global s (cp.object at name class arguments) w)
+    ∙ ap (λ os. record w { objects = os; variables = variables_from w.variables gs })
+    (append_assoc w.objects (new_object class (word_count s (Some class)) ∷ []) (objects_of s gs))
+each s (cp.mutex name ∷ gs) w = each s gs w
+each s (cp.wrong at ∷ gs) w = each s gs w
+
+pub start_is : (s : Setting) → with_globals s s.program.globals empty_world ≡ start_world s
+start_is s = each s s.program.globals empty_world
