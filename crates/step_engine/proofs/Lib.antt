@@ -2,3 +2,4 @@ mod Bindings
 mod ExitValues
 mod Offs
 mod Starts
+mod Overs

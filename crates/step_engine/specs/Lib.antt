@@ -1,3 +1,4 @@
 pub mod Effects
 pub mod Turns
 pub mod Starts
+pub mod TurnRuns

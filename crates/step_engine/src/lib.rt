@@ -10,8 +10,10 @@ mod enter;
 mod inserted;
 mod members;
 mod objects;
+mod runs;
 mod start;
 mod threads;
 mod turns;
 
 pub use engine::Engine;
+pub use runs::{Counts, Turns};

@@ -78,7 +78,7 @@ fn new_plain<'p>(
     made: u32,
     frame: &mut Frame<'p>,
 ) -> Result<Effect<'p>, Memory>
-    ensures { IfOk result (λ effect. (frame.new, effect_of effect) ≡ did frame.old (spec.new_plain setting.now depth made class frame.old)) }
+    ensures { IfOk result (λ effect. (frame.new, effect_of effect) ≡ did frame.old (spec.new_plain setting.now 0 made class frame.old)) }
 {
     frame.values.push(Datum::Pointer(ObjectId(made)))?;
     Ok(Effect::Change(Change::Create(class, setting.word_count(class))))

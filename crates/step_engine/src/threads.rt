@@ -137,8 +137,8 @@ fn spawned<'p>(
     entry: Entry<'p>,
     frame: &mut Frame<'p>,
 ) -> Result<Effect<'p>, Memory>
-    requires this { entry.entry.this ≡ None }
-    requires ending { ending_of entry.entry.ending ≡ ending_by (function_core entry.entry.function.now).result }
+    requires this { entry.this ≡ None }
+    requires ending { ending_of entry.ending ≡ ending_by (function_core entry.function.now).result }
     ensures { IfOk result (λ effect. (frame.new, effect_of effect) ≡ did frame.old (spec.spawn_of setting.now started name.0 entry.entry.number.0 (Some (function_core entry.entry.function.now)) frame.old)) }
 {
     let locals = take_arguments(alloc, entry.function, &mut frame.values)?;
