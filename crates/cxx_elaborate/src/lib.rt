@@ -1,0 +1,7 @@
+//! Makes the core form of a program, in which each name stands with its meaning and each operator with the types of its
+//! operands.
+#![tactic(auto)]
+
+mod elaborator;
+mod meanings;
+mod types;
