@@ -3,5 +3,8 @@
 #![tactic(auto)]
 
 mod elaborator;
+mod expressions;
 mod meanings;
+mod simple;
+mod threads;
 mod types;

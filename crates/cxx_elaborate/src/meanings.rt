@@ -55,6 +55,15 @@ fn own_object(object: Object, class: Option<ClassId>) -> Option<(Object, ClassId
     }
 }
 
+fn own_if(class: Option<ClassId>) -> Option<Object>
+    ensures { option_map object_core result ≡ spec.own_if class }
+{
+    match class {
+        None => None,
+        Some(_) => Some(Object::Own),
+    }
+}
+
 fn object_by(reference: Ref, variable: Option<cxx_names::Variable>) -> Option<(Object, ClassId)>
     ensures { option_map object_in result ≡ spec.object_by reference variable }
 {
@@ -194,15 +203,6 @@ impl<'a> Elaborator<'a> {
         }
     }
 
-    fn own_if(class: Option<ClassId>) -> Option<Object>
-        ensures { option_map object_core result ≡ spec.own_if class }
-    {
-        match class {
-            None => None,
-            Some(_) => Some(Object::Own),
-        }
-    }
-
     fn bare_callee(
         &self,
         at: Place,
@@ -219,7 +219,7 @@ impl<'a> Elaborator<'a> {
                 function: signature.id,
                 name: reference.name.item,
                 class,
-                object: Self::own_if(class),
+                object: own_if(class),
                 is_global: reference.global,
                 result: self.type_named(signature.result),
             }),

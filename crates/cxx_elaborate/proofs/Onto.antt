@@ -1,0 +1,49 @@
+-- Loops that put one part behind another, where what is made and what the rest gives is the whole.
+use Rattle.std.proofs.Common.{◌≡◌, ℕ, suc, ◌+◌, ◌<◌, ◌≤◌, refl, ap, sym, ◌∙◌, List, [], ◌∷◌, ◌++◌, map, length, drop, get_or, add-one}
+use Rattle.std.proofs.Math.Seq.{drop-cons}
+use Rattle.std.proofs.lemmas.List.{drop_all}
+use Rattle.cxx_tree.specs.declared.expr.Expr as tree_expr
+use Rattle.cxx_tree.specs.ExprTree.{expr_tree, exprs_tree}
+use Rattle.cxx_core.specs.declared.expr.Expr.{Expr}
+use Rattle.cxx_core.specs.CoreExpr.{CoreExpr, CoreExprs, no_exprs, more_exprs}
+use Rattle.cxx_core.specs.ExprView.{listed_exprs, expr_core, exprs_core}
+use Rattle.cxx_core.specs.Meanings.{Scope, Within}
+use Rattle.cxx_core.specs.ElaboratedExpr.{core_expr, core_exprs}
+
+-- the item of a turn stands before what is left
+pub at-turn : {U : Type 0} (xs : List U) (i : ℕ) (x : U) → i < length xs → x ≡ get_or xs i x → drop i xs ≡ x ∷ drop (i + 1) xs
+at-turn xs i x inside at = rw add-one (drop-cons xs i x inside ∙ ap (λ y. y ∷ drop (suc i) xs) (sym at))
+
+module _ {A R : Type 0} (put : A → R → R) where
+  -- parts before others
+  abbrev pub onto : List A → R → R
+  onto [] rest = rest
+  onto (first ∷ more) rest = put first (onto more rest)
+
+  module _ {T : Type 0} (view : T → A) where
+    onto-push : (made : List T) (x : T) (rest : R) → onto (map view (made ++ x ∷ [])) rest ≡ onto (map view made) (put (view x) rest)
+    onto-push [] x rest = refl
+    onto-push (first ∷ more) x rest = ap (put (view first)) (onto-push more x rest)
+
+    pub onto-turn : (made new : List T) (x : T) (before rest whole : R) → onto (map view made) before ≡ whole → new ≡ made ++ x ∷ [] → before ≡ put (view x) rest → onto (map view new) rest ≡ whole
+    onto-turn made new x before rest whole is pushed next =
+        ap (λ ys. onto (map view ys) rest) pushed ∙ (onto-push made x rest ∙ (ap (onto (map view made)) (sym next) ∙ is))
+
+-- ---- expressions
+
+abbrev pub exprs_onto : List CoreExpr → CoreExprs → CoreExprs
+exprs_onto = onto more_exprs
+
+exprs-end : (es : List CoreExpr) → exprs_onto es no_exprs ≡ listed_exprs es
+exprs-end [] = refl
+exprs-end (first ∷ more) = ap (more_exprs first) (exprs-end more)
+
+module _ (w : Within) (scope : Scope) where
+  pub exprs-turn : (xs : List tree_expr.Expr) (i : ℕ) (x : tree_expr.Expr) (made new : List Expr) (e : Expr) (whole : CoreExprs) → exprs_onto (map expr_core made) (core_exprs w scope (exprs_tree (drop i xs))) ≡ whole → i < length xs → x ≡ get_or xs i x → new ≡ made ++ e ∷ [] → expr_core e ≡ core_expr w scope (expr_tree x) → exprs_onto (map expr_core new) (core_exprs w scope (exprs_tree (drop (i + 1) xs))) ≡ whole
+  exprs-turn xs i x made new e whole is inside at pushed same =
+      let rest : CoreExprs = core_exprs w scope (exprs_tree (drop (i + 1) xs)) in
+      onto-turn more_exprs expr_core made new e (core_exprs w scope (exprs_tree (drop i xs))) rest whole is pushed (ap (λ ys. core_exprs w scope (exprs_tree ys)) (at-turn xs i x inside at) ∙ ap (λ one. more_exprs one rest) (sym same))
+
+  pub exprs-done : (xs : List tree_expr.Expr) (i : ℕ) (made : List Expr) (whole : CoreExprs) → exprs_onto (map expr_core made) (core_exprs w scope (exprs_tree (drop i xs))) ≡ whole → length xs ≤ i → exprs_core made ≡ whole
+  exprs-done xs i made whole is over =
+      sym (exprs-end (map expr_core made)) ∙ (ap (λ ys. exprs_onto (map expr_core made) (core_exprs w scope (exprs_tree ys))) (sym (drop_all i xs over)) ∙ is)
