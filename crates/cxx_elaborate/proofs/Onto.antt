@@ -3,12 +3,18 @@ use Rattle.std.proofs.Common.{◌≡◌, ℕ, suc, ◌+◌, ◌<◌, ◌≤◌, 
 use Rattle.std.proofs.Math.Seq.{drop-cons}
 use Rattle.std.proofs.lemmas.List.{drop_all}
 use Rattle.cxx_tree.specs.declared.expr.Expr as tree_expr
+use Rattle.cxx_tree.specs.declared.stmt.Stmt as tree_stmt
 use Rattle.cxx_tree.specs.ExprTree.{expr_tree, exprs_tree}
+use Rattle.cxx_tree.specs.StmtTree.{stmt_tree, stmts_tree}
 use Rattle.cxx_core.specs.declared.expr.Expr.{Expr}
+use Rattle.cxx_core.specs.declared.stmt.Stmt.{Stmt}
 use Rattle.cxx_core.specs.CoreExpr.{CoreExpr, CoreExprs, no_exprs, more_exprs}
+use Rattle.cxx_core.specs.CoreStmt.{CoreStmt, CoreStmts, no_stmts, more_stmts}
 use Rattle.cxx_core.specs.ExprView.{listed_exprs, expr_core, exprs_core}
+use Rattle.cxx_core.specs.StmtView.{listed_stmts, stmt_core, stmts_core}
 use Rattle.cxx_core.specs.Meanings.{Scope, Within}
 use Rattle.cxx_core.specs.ElaboratedExpr.{core_expr, core_exprs}
+use Rattle.cxx_core.specs.ElaboratedStmt.{core_stmt, core_stmts, scope_after}
 
 -- the item of a turn stands before what is left
 pub at-turn : {U : Type 0} (xs : List U) (i : ℕ) (x : U) → i < length xs → x ≡ get_or xs i x → drop i xs ≡ x ∷ drop (i + 1) xs
@@ -47,3 +53,26 @@ module _ (w : Within) (scope : Scope) where
   pub exprs-done : (xs : List tree_expr.Expr) (i : ℕ) (made : List Expr) (whole : CoreExprs) → exprs_onto (map expr_core made) (core_exprs w scope (exprs_tree (drop i xs))) ≡ whole → length xs ≤ i → exprs_core made ≡ whole
   exprs-done xs i made whole is over =
       sym (exprs-end (map expr_core made)) ∙ (ap (λ ys. exprs_onto (map expr_core made) (core_exprs w scope (exprs_tree ys))) (sym (drop_all i xs over)) ∙ is)
+
+-- ---- statements
+
+abbrev pub stmts_onto : List CoreStmt → CoreStmts → CoreStmts
+stmts_onto = onto more_stmts
+
+stmts-end : (ss : List CoreStmt) → stmts_onto ss no_stmts ≡ listed_stmts ss
+stmts-end [] = refl
+stmts-end (first ∷ more) = ap (more_stmts first) (stmts-end more)
+
+module _ (w : Within) where
+  pub stmts-turn : (xs : List tree_stmt.Stmt) (i : ℕ) (x : tree_stmt.Stmt) (before after : Scope) (made new : List Stmt) (s : Stmt) (whole : CoreStmts) → stmts_onto (map stmt_core made) (core_stmts w before (stmts_tree (drop i xs))) ≡ whole → i < length xs → x ≡ get_or xs i x → new ≡ made ++ s ∷ [] → stmt_core s ≡ core_stmt w before (stmt_tree x) → after ≡ scope_after w before (stmt_tree x) → stmts_onto (map stmt_core new) (core_stmts w after (stmts_tree (drop (i + 1) xs))) ≡ whole
+  stmts-turn xs i x before after made new s whole is inside at pushed same then =
+      let rest : List tree_stmt.Stmt = drop (i + 1) xs in
+      onto-turn more_stmts stmt_core made new s (core_stmts w before (stmts_tree (drop i xs))) (core_stmts w after (stmts_tree rest)) whole is pushed (ap (λ ys. core_stmts w before (stmts_tree ys)) (at-turn xs i x inside at) ∙ (ap (λ one. more_stmts one (core_stmts w (scope_after w before (stmt_tree x)) (stmts_tree rest))) (sym same) ∙ ap (λ scope. more_stmts (stmt_core s) (core_stmts w scope (stmts_tree rest))) (sym then)))
+
+  pub stmts-done : (xs : List tree_stmt.Stmt) (i : ℕ) (scope : Scope) (made : List Stmt) (whole : CoreStmts) → stmts_onto (map stmt_core made) (core_stmts w scope (stmts_tree (drop i xs))) ≡ whole → length xs ≤ i → stmts_core made ≡ whole
+  stmts-done xs i scope made whole is over =
+      sym (stmts-end (map stmt_core made)) ∙ (ap (λ ys. stmts_onto (map stmt_core made) (core_stmts w scope (stmts_tree ys))) (sym (drop_all i xs over)) ∙ is)
+
+pub stmts-append : (ss more : List Stmt) → stmts_core (ss ++ more) ≡ stmts_onto (map stmt_core ss) (stmts_core more)
+stmts-append [] more = refl
+stmts-append (first ∷ rest) more = ap (more_stmts (stmt_core first)) (stmts-append rest more)

@@ -4,7 +4,9 @@
 
 mod elaborator;
 mod expressions;
+mod functions;
 mod meanings;
 mod simple;
+mod statements;
 mod threads;
 mod types;

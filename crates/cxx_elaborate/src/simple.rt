@@ -39,7 +39,8 @@ fn source_as(alloc: Global, is_name: bool, expr: Expr) -> Result<Source, Memory>
     }
 }
 
-fn one_stmt(alloc: Global, stmt: Stmt) -> Result<Items<Stmt>, Memory>
+/// A statement alone.
+pub(crate) fn one_stmt(alloc: Global, stmt: Stmt) -> Result<Items<Stmt>, Memory>
     ensures { IfOk result (λ ss. stmts_core ss ≡ spec.one_stmt (stmt_core stmt)) }
 {
     let mut stmts = Items::new(alloc);
