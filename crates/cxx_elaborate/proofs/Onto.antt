@@ -1,20 +1,25 @@
 -- Loops that put one part behind another, where what is made and what the rest gives is the whole.
-use Rattle.std.proofs.Common.{◌≡◌, ℕ, suc, ◌+◌, ◌<◌, ◌≤◌, refl, ap, sym, ◌∙◌, List, [], ◌∷◌, ◌++◌, map, length, drop, get_or, add-one}
+use Rattle.std.proofs.Common.{◌≡◌, ℕ, suc, ◌+◌, ◌<◌, ◌≤◌, refl, ap, sym, ◌∙◌, Bool, true, false, List, [], ◌∷◌, ◌++◌, map, length, drop, get_or, add-one, Option}
 use Rattle.std.proofs.Math.Seq.{drop-cons}
 use Rattle.std.proofs.lemmas.List.{drop_all}
+use Rattle.agxx_base.specs.declared.ids.NameId.{NameId}
+use Rattle.cxx_tree.specs.declared.node.Placed.{Placed}
 use Rattle.cxx_tree.specs.declared.expr.Expr as tree_expr
+use Rattle.cxx_tree.specs.declared.program.Init.{Init}
 use Rattle.cxx_tree.specs.declared.stmt.Stmt as tree_stmt
 use Rattle.cxx_tree.specs.ExprTree.{expr_tree, exprs_tree}
 use Rattle.cxx_tree.specs.StmtTree.{stmt_tree, stmts_tree}
+use Rattle.cxx_tree.specs.ProgramTree.{init_tree}
 use Rattle.cxx_core.specs.declared.expr.Expr.{Expr}
 use Rattle.cxx_core.specs.declared.stmt.Stmt.{Stmt}
 use Rattle.cxx_core.specs.CoreExpr.{CoreExpr, CoreExprs, no_exprs, more_exprs}
-use Rattle.cxx_core.specs.CoreStmt.{CoreStmt, CoreStmts, no_stmts, more_stmts}
+use Rattle.cxx_core.specs.CoreStmt.{CoreStmt, CoreStmts, no_stmts, more_stmts, wrong}
 use Rattle.cxx_core.specs.ExprView.{listed_exprs, expr_core, exprs_core}
 use Rattle.cxx_core.specs.StmtView.{listed_stmts, stmt_core, stmts_core}
 use Rattle.cxx_core.specs.Meanings.{Scope, Within}
 use Rattle.cxx_core.specs.ElaboratedExpr.{core_expr, core_exprs}
 use Rattle.cxx_core.specs.ElaboratedStmt.{core_stmt, core_stmts, scope_after}
+use Rattle.cxx_core.specs.ElaboratedProgram.{is_named, others_wrong}
 
 -- the item of a turn stands before what is left
 pub at-turn : {U : Type 0} (xs : List U) (i : ℕ) (x : U) → i < length xs → x ≡ get_or xs i x → drop i xs ≡ x ∷ drop (i + 1) xs
@@ -73,6 +78,24 @@ module _ (w : Within) where
   stmts-done xs i scope made whole is over =
       sym (stmts-end (map stmt_core made)) ∙ (ap (λ ys. stmts_onto (map stmt_core made) (core_stmts w scope (stmts_tree ys))) (sym (drop_all i xs over)) ∙ is)
 
-pub stmts-append : (ss more : List Stmt) → stmts_core (ss ++ more) ≡ stmts_onto (map stmt_core ss) (stmts_core more)
+stmts-append : (ss more : List Stmt) → stmts_core (ss ++ more) ≡ stmts_onto (map stmt_core ss) (stmts_core more)
 stmts-append [] more = refl
 stmts-append (first ∷ rest) more = ap (more_stmts (stmt_core first)) (stmts-append rest more)
+
+-- ---- initialisers
+
+module _ (base : Option (Placed NameId)) (body : CoreStmts) where
+  pub others-push : (xs : List Init) (i : ℕ) (x : Init) (made new : List Stmt) (s : Stmt) (whole : CoreStmts) → stmts_onto (map stmt_core made) (others_wrong base (map init_tree (drop i xs)) body) ≡ whole → i < length xs → x ≡ get_or xs i x → is_named base x.name.item ≡ false → stmt_core s ≡ wrong x.name.at → new ≡ made ++ s ∷ [] → stmts_onto (map stmt_core new) (others_wrong base (map init_tree (drop (i + 1) xs)) body) ≡ whole
+  others-push xs i x made new s whole is inside at other same pushed =
+      let rest : List Init = drop (i + 1) xs in
+      onto-turn more_stmts stmt_core made new s (others_wrong base (map init_tree (drop i xs)) body) (others_wrong base (map init_tree rest) body) whole is pushed (ap (λ ys. others_wrong base (map init_tree ys) body) (at-turn xs i x inside at) ∙ rw (other, same) refl)
+
+  pub others-pass : (xs : List Init) (i : ℕ) (x : Init) (made new : List Stmt) (whole : CoreStmts) → stmts_onto (map stmt_core made) (others_wrong base (map init_tree (drop i xs)) body) ≡ whole → i < length xs → x ≡ get_or xs i x → is_named base x.name.item ≡ true → new ≡ made → stmts_onto (map stmt_core new) (others_wrong base (map init_tree (drop (i + 1) xs)) body) ≡ whole
+  others-pass xs i x made new whole is inside at own same =
+      let rest : List Init = drop (i + 1) xs in
+      let passed : others_wrong base (map init_tree (x ∷ rest)) body ≡ others_wrong base (map init_tree rest) body = rw own refl in
+      ap (λ ys. stmts_onto (map stmt_core ys) (others_wrong base (map init_tree rest) body)) same ∙ (ap (stmts_onto (map stmt_core made)) (sym passed) ∙ (ap (λ ys. stmts_onto (map stmt_core made) (others_wrong base (map init_tree ys) body)) (sym (at-turn xs i x inside at)) ∙ is))
+
+pub others-done : (base : Option (Placed NameId)) (body : List Stmt) (xs : List Init) (i : ℕ) (made new : List Stmt) (whole : CoreStmts) → stmts_onto (map stmt_core made) (others_wrong base (map init_tree (drop i xs)) (stmts_core body)) ≡ whole → length xs ≤ i → new ≡ made ++ body → stmts_core new ≡ whole
+others-done base body xs i made new whole is over joined =
+    ap stmts_core joined ∙ (stmts-append made body ∙ (ap (λ ys. stmts_onto (map stmt_core made) (others_wrong base (map init_tree ys) (stmts_core body))) (sym (drop_all i xs over)) ∙ is))

@@ -4,12 +4,13 @@ ghost use Rattle.std.specs.Prelude.{◌≡◌, IfOk, OnOk, map, option_map};
 ghost use Rattle.std.specs.Option.{option_copied};
 ghost use Rattle.cxx_tree.specs.ProgramTree.{function_tree, init_tree, ctor_tree, dtor_tree};
 ghost use Rattle.cxx_core.specs.ExprView.{exprs_core};
-ghost use Rattle.cxx_core.specs.StmtView.{stmts_core};
+ghost use Rattle.cxx_core.specs.CoreStmt as core_stmt;
+ghost use Rattle.cxx_core.specs.StmtView.{stmt_core, stmts_core};
 ghost use Rattle.cxx_core.specs.ProgramView.{number_core, param_core, function_core};
 ghost use Rattle.cxx_core.specs.ElaboratedProgram as spec;
 
 use crate::elaborator::Elaborator;
-use agxx_base::{ClassId, FnId, Memory, NameId};
+use agxx_base::{ClassId, FnId, Memory, NameId, Place};
 use cxx_core::{Expr, Function, FunctionKind, Param, Stmt};
 use cxx_names::{ClassInfo, Signature, Table, Thing, ValueType};
 use cxx_tree::{Ctor, Dtor, Init, Name};
@@ -62,6 +63,12 @@ pub(crate) fn dtor_number(info: Option<&ClassInfo>) -> Option<FnId>
         None => None,
         Some(info) => number_by(info.dtor.as_ref()),
     }
+}
+
+fn wrong(at: Place) -> Stmt
+    ensures { stmt_core result ≡ core_stmt.wrong at }
+{
+    Stmt::Wrong(at)
 }
 
 impl<'a> Elaborator<'a> {
@@ -183,7 +190,7 @@ impl<'a> Elaborator<'a> {
         let mut stmts = Items::new(self.alloc);
         for init in inits {
             if !is_named(base, init.name.item) {
-                stmts.push(Stmt::Wrong(init.name.at))?;
+                stmts.push(wrong(init.name.at))?;
             }
         }
         stmts.append(body)?;
