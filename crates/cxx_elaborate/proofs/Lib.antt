@@ -1,2 +1,4 @@
 pub mod Onto
 pub mod Scopes
+pub mod Numbered
+pub mod Gathered

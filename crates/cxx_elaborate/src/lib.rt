@@ -2,11 +2,16 @@
 //! operands.
 #![tactic(auto)]
 
+mod classes;
 mod elaborator;
 mod expressions;
 mod functions;
+mod globals;
 mod meanings;
+mod programs;
 mod simple;
 mod statements;
 mod threads;
 mod types;
+
+pub use programs::elaborate;
