@@ -32,7 +32,7 @@ map-push (first ∷ more) f = ap (λ ys. function_core first ∷ ys) (map-push m
 -- a function that has the next number
 pub adds-push : (before after : List Function) (f : Function) (core : CoreFunction) (number : ℕ) → number ≡ length before → function_core f ≡ record core { number = number } → after ≡ before ++ f ∷ [] → Adds (map function_core before) (map function_core after) (λ rest. core ∷ rest)
 adds-push before after f core number next made pushed =
-    let same : number ≡ length (map function_core before) = next ∙ sym (length-map function_core before) in
+    let same : number ≡ length (map function_core before) = next ∙ sym (length-map before function_core) in
     rw (pushed, map-push before f) (push-one (map function_core before) (function_core f) core (made ∙ ap (λ n. record core { number = n }) same))
 
 -- ---- the items of a class

@@ -1,6 +1,7 @@
 //! Whole programs.
 
 ghost use Rattle.std.specs.Prelude.{◌≡◌, codes, map, suc, IfOk, OnOk, option_map};
+ghost use Rattle.std.specs.Str.{bytes_eq};
 ghost use Rattle.agxx_base.specs.Names.{number_of};
 ghost use Rattle.cxx_tree.specs.ProgramTree.{decl_tree, program_tree};
 ghost use Rattle.cxx_names.specs.Declarations as declarations;
@@ -19,6 +20,12 @@ use cxx_tree::Decl;
 use sqlite_items::Items;
 use std::alloc::Global;
 
+fn is_main(text: &[u8]) -> bool
+    ensures { result ≡ bytes_eq (codes "main") text.now }
+{
+    b"main".as_slice() == text
+}
+
 /// The number of the name `main`, or the next number where it has none.
 fn main_name(names: &Names) -> Result<NameId, Memory>
     ensures { IfOk result (λ name. name.0 ≡ number_of names.now (codes "main")) }
@@ -26,7 +33,7 @@ fn main_name(names: &Names) -> Result<NameId, Memory>
     let count = names.len();
     for index in 0..count {
         let name = NameId(index as u32);
-        if names.text_of(name) == b"main".as_slice() {
+        if is_main(names.text_of(name)) {
             return Ok(name);
         }
     }
