@@ -1,5 +1,4 @@
 pub mod Onto
 pub mod Scopes
 pub mod Numbered
-pub mod Gathered
 pub mod MainName

@@ -12,24 +12,16 @@ use Rattle.cxx_core.specs.ElaboratedStmt.{with_local, scope_after, scope_in_for}
 pub record Stands (before after : Scope) : Type 0 where
   pub is : take (length before) after ≡ before
 
--- one that stays the same
-pub stands-itself : (a : Scope) → Stands a a
-stands-itself a = record { is = take-length a }
-
 stands-name-by : (a b : Scope) (name : ℕ) (t : Thing) (known : Bool) → Stands a b → Stands a (if known then b else b ++ (name, t) ∷ [])
 stands-name-by a b name t true stands = stands
 stands-name-by a b name t false stands =
     let inside : length a ≤ length b = omega (arith, length-take (length a) b, ap length stands.is) in
     record { is = take-append-le _ _ _ inside ∙ stands.is }
 
-pub stands-name : (a b : Scope) (name : ℕ) (t : Thing) → Stands a b → Stands a (with_name b name t)
+stands-name : (a b : Scope) (name : ℕ) (t : Thing) → Stands a b → Stands a (with_name b name t)
 stands-name a b name t = stands-name-by a b name t (is_some (named b name))
 
 pub stands-after : (w : Within) (a b : Scope) (stmt : s.StmtTree) → Stands a b → Stands a (scope_after w b stmt)
 stands-after w a b (s.local l) = stands-name a b _ _
 stands-after w a b (s.thread x) = stands-name a b _ _
 stands-after w a b _ = λ stands. stands
-
-pub stands-in-for : (w : Within) (a : Scope) (start : Option s.StartTree) → Stands a (scope_in_for w a start)
-stands-in-for w a (Some (s.start_local l)) = stands-name a a _ _ (stands-itself a)
-stands-in-for w a _ = stands-itself a
