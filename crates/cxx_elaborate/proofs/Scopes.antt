@@ -1,12 +1,11 @@
 -- A scope stands unchanged before what is declared later.
-use Rattle.std.proofs.Common.{◌≡◌, ℕ, ◌≤◌, ◌∙◌, ap, sym, refl, arith, Bool, true, false, List, [], ◌∷◌, ◌++◌, take, length, Option, Some, None, is_some, if◌then◌else◌}
-use Rattle.std.proofs.Math.Seq.{take-length}
+use Rattle.std.proofs.Common.{◌≡◌, ℕ, ◌≤◌, ◌∙◌, ap, arith, Bool, true, false, [], ◌∷◌, ◌++◌, take, length, is_some, if◌then◌else◌}
 use Rattle.std.proofs.lemmas.List.{take-append-le, length-take}
 use Rattle.cxx_tree.specs.StmtTree as s
 use Rattle.cxx_names.specs.declared.types.Thing.{Thing}
 use Rattle.cxx_names.specs.Tables.{named, with_name}
 use Rattle.cxx_core.specs.Meanings.{Scope, Within}
-use Rattle.cxx_core.specs.ElaboratedStmt.{with_local, scope_after, scope_in_for}
+use Rattle.cxx_core.specs.ElaboratedStmt.{scope_after}
 
 -- the first scope stands before what the second one has more
 pub record Stands (before after : Scope) : Type 0 where

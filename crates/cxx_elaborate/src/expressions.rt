@@ -104,12 +104,7 @@ fn joined(
     }
 }
 
-fn binary_as(
-    alloc: Global,
-    op: Placed<BinOp>,
-    left: Expr,
-    right: Expr,
-) -> Result<Expr, Memory>
+fn binary_as(alloc: Global, op: Placed<BinOp>, left: Expr, right: Expr) -> Result<Expr, Memory>
     ensures { IfOk result (λ e. expr_core e ≡ spec.binary_as op.at op.item (expr_core left) (expr_core right)) }
 {
     match (type_of(&left), type_of(&right)) {
@@ -218,11 +213,7 @@ impl<'a> Elaborator<'a> {
 
     /// An expression, where these locals and parameters are in scope.
     #[cycle(expr)]
-    pub(crate) fn expr(
-        &self,
-        scope: &Table<Thing>,
-        expr: &cxx_tree::Expr,
-    ) -> Result<Expr, Memory>
+    pub(crate) fn expr(&self, scope: &Table<Thing>, expr: &cxx_tree::Expr) -> Result<Expr, Memory>
         ensures { IfOk result (λ e. expr_core e ≡ spec.core_expr self.now scope.now (expr_tree expr.now)) }
     {
         match expr {

@@ -92,12 +92,7 @@ fn variable_as(
     }
 }
 
-fn object_as(
-    at: Place,
-    name: NameId,
-    class: Option<ClassId>,
-    arguments: Items<Expr>,
-) -> Global
+fn object_as(at: Place, name: NameId, class: Option<ClassId>, arguments: Items<Expr>) -> Global
     ensures { global_core result ≡ spec.object_as at name.0 class (exprs_core arguments) }
 {
     match class {

@@ -171,12 +171,7 @@ impl<'a> Elaborator<'a> {
         }
     }
 
-    fn member_in(
-        &self,
-        at: Place,
-        name: NameId,
-        object: Option<(Object, ClassId)>,
-    ) -> Option<Left>
+    fn member_in(&self, at: Place, name: NameId, object: Option<(Object, ClassId)>) -> Option<Left>
         ensures { option_map left_core result ≡ spec.member_in self.now.declared at name.0 (option_map object_in object) }
     {
         match object {

@@ -144,11 +144,7 @@ fn return_as(at: Place, result_type: Option<ValueType>, source: Source) -> Stmt
 }
 
 impl<'a> Elaborator<'a> {
-    fn source(
-        &self,
-        scope: &Table<Thing>,
-        value: &cxx_tree::Expr,
-    ) -> Result<Source, Memory>
+    fn source(&self, scope: &Table<Thing>, value: &cxx_tree::Expr) -> Result<Source, Memory>
         ensures { IfOk result (λ s. source_core s ≡ spec.core_source self.now scope.now (expr_tree value.now)) }
     {
         let expr = self.expr(scope, value)?;
@@ -310,11 +306,7 @@ impl<'a> Elaborator<'a> {
         Text::from_bytes(self.alloc, quoted.bytes.bytes())
     }
 
-    fn printed(
-        &self,
-        scope: &Table<Thing>,
-        printed: &cxx_tree::Printed,
-    ) -> Result<Printed, Memory>
+    fn printed(&self, scope: &Table<Thing>, printed: &cxx_tree::Printed) -> Result<Printed, Memory>
         ensures { IfOk result (λ p. printed_core p ≡ spec.core_printed self.now scope.now (printed_tree printed.now)) }
     {
         match printed {

@@ -16,11 +16,7 @@ use sqlite_items::Items;
 impl<'a> Elaborator<'a> {
     /// A statement, after which a local that it declares is in scope.
     #[cycle(stmt)]
-    fn stmt(
-        &self,
-        scope: &mut Table<Thing>,
-        stmt: &cxx_tree::Stmt,
-    ) -> Result<Stmt, Memory>
+    fn stmt(&self, scope: &mut Table<Thing>, stmt: &cxx_tree::Stmt) -> Result<Stmt, Memory>
         ensures core { IfOk result (λ s. stmt_core s ≡ spec.core_stmt self.now scope.old (stmt_tree stmt.now)) }
         ensures scope { OnOk result (scope.new ≡ spec.scope_after self.now scope.old (stmt_tree stmt.now)) }
     {
@@ -99,11 +95,7 @@ impl<'a> Elaborator<'a> {
     }
 
     #[cycle(stmt)]
-    fn otherwise(
-        &self,
-        scope: &mut Table<Thing>,
-        otherwise: &Else,
-    ) -> Result<Items<Stmt>, Memory>
+    fn otherwise(&self, scope: &mut Table<Thing>, otherwise: &Else) -> Result<Items<Stmt>, Memory>
         ensures core { IfOk result (λ ss. stmts_core ss ≡ spec.core_else self.now scope.old (else_tree otherwise.now)) }
         ensures scope { OnOk result (scope.new ≡ scope.old) }
     {
@@ -117,11 +109,7 @@ impl<'a> Elaborator<'a> {
     }
 
     #[cycle(stmt)]
-    fn repeat_while(
-        &self,
-        scope: &mut Table<Thing>,
-        repeat: &While,
-    ) -> Result<Stmt, Memory>
+    fn repeat_while(&self, scope: &mut Table<Thing>, repeat: &While) -> Result<Stmt, Memory>
         ensures core { IfOk result (λ s. stmt_core s ≡ spec.core_stmt self.now scope.old (while_tree repeat.now)) }
         ensures scope { OnOk result (scope.new ≡ spec.scope_after self.now scope.old (while_tree repeat.now)) }
     {
@@ -131,11 +119,7 @@ impl<'a> Elaborator<'a> {
     }
 
     #[cycle(stmt)]
-    fn repeat_for(
-        &self,
-        scope: &mut Table<Thing>,
-        repeat: &For,
-    ) -> Result<Stmt, Memory>
+    fn repeat_for(&self, scope: &mut Table<Thing>, repeat: &For) -> Result<Stmt, Memory>
         ensures core { IfOk result (λ s. stmt_core s ≡ spec.core_stmt self.now scope.old (for_tree repeat.now)) }
         ensures scope { OnOk result (scope.new ≡ spec.scope_after self.now scope.old (for_tree repeat.now)) }
     {
