@@ -1,0 +1,4 @@
+pub mod Onto
+pub mod Scopes
+pub mod Numbered
+pub mod MainName
