@@ -5,6 +5,9 @@
 
 mod answer;
 mod exec;
+mod line;
+mod run;
+mod summary;
 #[cfg(test)]
 mod tests;
 mod top;

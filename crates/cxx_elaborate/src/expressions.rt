@@ -10,10 +10,9 @@ ghost use Rattle.cxx_core.specs.ElaboratedExpr as spec;
 ghost use Rattle.cxx_elaborate.specs.Views.{object_in};
 
 use crate::elaborator::Elaborator;
-use crate::types::{binary_type, type_of, unary_type};
 use agxx_base::{ClassId, Memory, NumKind, Place};
 use cxx_arith::{Value, flag};
-use cxx_core::{Callee, Expr, Left, Object};
+use cxx_core::{Callee, Expr, Left, Object, binary_type, type_of, unary_type};
 use cxx_names::{Table, Thing, ValueType};
 use cxx_tree::{BinOp, Call, Node, Number, Placed, TypeName, UnOp};
 use sqlite_items::{Boxed, Items};

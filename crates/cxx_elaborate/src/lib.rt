@@ -12,6 +12,5 @@ mod programs;
 mod simple;
 mod statements;
 mod threads;
-mod types;
 
 pub use programs::elaborate;

@@ -9,10 +9,9 @@ ghost use Rattle.cxx_core.specs.ElaboratedExpr.{core_expr};
 ghost use Rattle.cxx_core.specs.ElaboratedStmt as spec;
 
 use crate::elaborator::Elaborator;
-use crate::types::{binary_type, left_type, type_of};
 use agxx_base::{Memory, NameId, NumKind, Place, Text};
 use cxx_arith::{Value, flag};
-use cxx_core::{Expr, Left, Printed, Source, Stmt, Variable};
+use cxx_core::{Expr, Left, Printed, Source, Stmt, Variable, binary_type, left_type, type_of};
 use cxx_names::{Table, Thing, ValueType};
 use cxx_tree::{BinOp, Bump, Call, Initial, Local, Placed, Quoted, Simple, Start, Thread};
 use sqlite_items::{Boxed, Items};

@@ -1,5 +1,5 @@
 -- Runs by turns that a rule names, each taken while the run goes on.
-use Rattle.std.specs.Prelude.{ℕ, zero, suc, Bool, true, false, if◌then◌else◌}
+use Rattle.std.specs.Prelude.{ℕ, zero, suc, ◌+◌, Bool, true, false, if◌then◌else◌}
 use Rattle.step_machine.specs.declared.outcome.State.{State}
 use Rattle.step_machine.specs.declared.outcome.State.TheVariants as state
 use Rattle.step_machine.specs.Machine.{Machine, next}
@@ -26,3 +26,7 @@ run_of turn limit m = after_turns turn (m, nothing_counted) limit
 
 abbrev pub counts_of : Counts → runs.Counts
 counts_of c = record { source = c.source; inserted = c.inserted; blocked = c.blocked; idle = c.idle }
+
+-- how many turns were taken
+abbrev pub turns_in : Counts → ℕ
+turns_in c = c.source + c.inserted + c.blocked + c.idle

@@ -1,8 +1,8 @@
 //! Runs by turns.
 
-ghost use Rattle.std.specs.Prelude.{◌≡◌, ◌+◌, ◌<◌, ◌^◌, false, IfOk};
+ghost use Rattle.std.specs.Prelude.{◌≡◌, ◌+◌, ◌<◌, ◌≤◌, ◌^◌, IfOk};
 ghost use Rattle.step_machine.specs.Runs.{counted, nothing_counted};
-ghost use Rattle.step_engine.specs.TurnRuns.{is_running, run_of, counts_of};
+ghost use Rattle.step_engine.specs.TurnRuns.{is_running, run_of, counts_of, turns_in};
 
 use crate::engine::Engine;
 use agxx_base::Memory;
@@ -52,10 +52,7 @@ impl Counts {
 
     /// One more turn.
     fn add(&mut self, kind: StepKind)
-        requires source { self.old.source + 1 < 2 ^ 64 }
-        requires inserted { self.old.inserted + 1 < 2 ^ 64 }
-        requires blocked { self.old.blocked + 1 < 2 ^ 64 }
-        requires idle { self.old.idle + 1 < 2 ^ 64 }
+        requires { turns_in self.old + 1 < 2 ^ 64 }
         ensures { counts_of self.new ≡ counted kind (counts_of self.old) }
     {
         match kind {
@@ -70,7 +67,8 @@ impl Counts {
 impl<'p, H: Heap> Engine<'p, H> {
     /// Takes turns while the run goes on, so many at most, and counts them. After `Memory` the run is lost.
     pub fn run<T: Turns>(&mut self, turns: &T, limit: u64) -> Result<Counts, Memory>
-        ensures { IfOk result (λ counts. (self.new, counts_of counts) ≡ run_of (T.thread turns.now) limit self.old) }
+        ensures ran { IfOk result (λ counts. (self.new, counts_of counts) ≡ run_of (T.thread turns.now) limit self.old) }
+        ensures few { IfOk result (λ counts. turns_in counts ≤ limit) }
     {
         let mut counts = Counts::new();
         for index in 0..limit {
