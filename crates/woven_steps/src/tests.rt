@@ -13,6 +13,8 @@ const FIRST: ObjectId = ObjectId(0);
 
 const SECOND: ObjectId = ObjectId(1);
 
+const NAME: NameId = NameId(2);
+
 const THIRD: ObjectId = ObjectId(2);
 
 const INSIDE: Lock = Lock::Inside(SECOND, 4);
@@ -22,6 +24,9 @@ const SHARED: Lock = Lock::Shared(NameId(6));
 // Two objects are made and written to, and mutexes are taken.
 fn begin<H: Heap>(world: &mut World<H>) -> Result<(), Memory> {
     world.create(ClassId(3), 2)?;
+    if !world.has_variable(NAME) {
+        world.declare(NAME, Datum::Null)?;
+    }
     for change in [
         Change::Create(ClassId(5), 1),
         Change::Store(FIRST, 1, 7),
@@ -43,7 +48,7 @@ fn go_on<H: Heap>(world: &mut World<H>) -> Result<(), Memory> {
         Change::Kill(FIRST),
         Change::Store(FIRST, 1, 6),
         Change::Free(INSIDE),
-        Change::Assign(NameId(2), Datum::Pointer(SECOND)),
+        Change::Assign(NAME, Datum::Pointer(SECOND)),
         Change::Create(ClassId(3), 2),
     ] {
         world.change(1, change)?;
@@ -84,7 +89,8 @@ fn walk<H: Heap>(rt: &impl Abort, alloc: Global, heap: H) -> Result<(), Memory>
     assert_eq!(rt; words(&world), expected);
     assert_eq!(rt; holders(&world), [None, None, Some(2)]);
     assert_eq!(rt; world.class(SECOND), Some(ClassId(5)));
-    assert_eq!(rt; world.variable(NameId(2)), Datum::Pointer(SECOND));
+    assert_eq!(rt; world.heap().made(), 3);
+    assert_eq!(rt; world.variable(NAME), Datum::Pointer(SECOND));
     Ok(())
 }
 
