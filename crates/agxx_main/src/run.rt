@@ -24,8 +24,7 @@ struct EightThreads;
 impl Turns for EightThreads {
     ghost thread = { λ turns. spec.default_thread };
 
-    fn turn(&self, index: u64) -> u32
-    {
+    fn turn(&self, index: u64) -> u32 {
         (index % 8) as u32
     }
 }
