@@ -1,5 +1,5 @@
-"""How the time of parsing grows: some texts are programs, which are refused by U1 after they are read; others stop being
-one early or at their end."""
+"""How the time of parsing grows: some texts are read to their end, and then refused by a rule on names; others stop being a
+program early or at their end."""
 
 from growth import measure
 

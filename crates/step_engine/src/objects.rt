@@ -61,7 +61,7 @@ pub(crate) fn make<'p, H: Heap>(
 {
     match arguments {
         [] => build(alloc, setting, world, depth, at, object, class, frame),
-        _ => match world.class(object) {
+        [_, ..] => match world.class(object) {
             None => Ok(Effect::Stop(Stop::Dead, at)),
             Some(_) => {
                 frame.agenda.push(Work::Build(at, object, class))?;
