@@ -4,6 +4,8 @@ use Rattle.std.proofs.lemmas.Option.{get_or_from_slice_get}
 use Rattle.std.proofs.lemmas.List.{set-get_or}
 use Rattle.step_machine.specs.Frame.{Frame}
 use Rattle.step_machine.specs.Item.{Item}
+use Rattle.step_frame.specs.declared.work.Work.{Work}
+use Rattle.step_frame.specs.Works.{item_of}
 use Rattle.step_machine.specs.Turn.{Threads, put_back}
 use Rattle.step_engine.specs.Turns.{has_items, are_some}
 use Rattle.step_machine.specs.Machine.{Off, taken_off, off_at, off_frames, off_items}
@@ -30,11 +32,11 @@ pub idle : (t : ℕ) (ths : Threads) (old new : List Frame) → slice_get ths t 
 idle t ths old new e p = (ap (slice_set ths t) p.0 ∙ set-same t ths old e, off-none t ths old e p.1)
 
 -- what `take` answered
-abbrev pub Took : List Frame → List Frame → Option (Frame × Item) → Type 0
-Took old new o = MatchOption o ((new ≡ old) × (has_items old ≡ false)) (λ r. old ≡ put_back r.1 r.0 ∷ new)
+abbrev pub Took : List Frame → List Frame → Option (Frame × Work) → Type 0
+Took old new o = MatchOption o ((new ≡ old) × (has_items old ≡ false)) (λ r. old ≡ put_back (item_of r.1) r.0 ∷ new)
 
-pub took-some : (old new : List Frame) (o : Option (Frame × Item)) (r : Frame × Item) → Took old new o → o ≡ Some r → old ≡ put_back r.1 r.0 ∷ new
+pub took-some : (old new : List Frame) (o : Option (Frame × Work)) (r : Frame × Work) → Took old new o → o ≡ Some r → old ≡ put_back (item_of r.1) r.0 ∷ new
 took-some old new o r m e = subst (Took old new) e m
 
-pub took-none : (old new : List Frame) (o : Option (Frame × Item)) → Took old new o → o ≡ None → (new ≡ old) × (has_items old ≡ false)
+pub took-none : (old new : List Frame) (o : Option (Frame × Work)) → Took old new o → o ≡ None → (new ≡ old) × (has_items old ≡ false)
 took-none old new o m e = subst (Took old new) e m
