@@ -164,6 +164,7 @@ fn stmt<'p, H: Heap>(
 }
 
 /// The value of `main`, which is what is kept last.
+#[tactic(auto, using(crate::proofs::ExitValues::exit_value_fits))]
 fn exit_value(datum: Datum) -> i32
     ensures { result ≡ numbers.number (numbers.convert_of NumKind.I32 (datums.as_number datum)) }
 {
