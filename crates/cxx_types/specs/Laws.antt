@@ -1,6 +1,10 @@
--- What the least of several violations is.
-use Rattle.std.specs.Prelude.{◌≡◌, ◌⊎◌, false, List, [], ◌∷◌, Option, Some, None}
+-- What the least of several violations is, and that each node of a program is known.
+use Rattle.std.specs.Prelude.{◌≡◌, ℕ, ◌⊎◌, false, List, [], ◌∷◌, length, Some, None}
 use Rattle.agxx_base.specs.declared.fault.Refusal.{Refusal}
+use Rattle.agxx_base.specs.declared.kind.Mode.{Mode}
+use Rattle.cxx_tree.specs.Nodes.{nodes_in_program}
+use Rattle.cxx_tree.specs.ProgramTree.{ProgramTree}
+use Rattle.cxx_types.specs.Programs.{checked}
 use Rattle.cxx_types.specs.Violations.{is_before, least}
 
 abbrev pub IsAmong : Refusal → List Refusal → Type 0
@@ -16,3 +20,8 @@ pub record IsLeast (rs : List Refusal) (r : Refusal) : Type 0 where
 pub record LeastIsLeast : Type 0 where
   pub some : (rs : List Refusal) (r : Refusal) → least rs ≡ Some r → IsLeast rs r
   pub none : (rs : List Refusal) → least rs ≡ None → rs ≡ []
+
+-- Of each node of a program just one thing is known, whether the program violates a rule or not. So where nodes are
+-- numbered from 0 in text order, each number is the place of what is known of its node.
+abbrev pub EachNodeOnce : Type 0
+EachNodeOnce = (names : List (List ℕ)) (mode : Mode) (q : ProgramTree) → length (checked names mode q).entries ≡ nodes_in_program q

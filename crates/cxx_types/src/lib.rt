@@ -26,5 +26,5 @@ pub use context::Context;
 pub use cxx_layout::{ClassList, Layout, WordInfo};
 pub use cxx_names::ValueType;
 pub use entry::{Entry, Meaning};
-pub use laws::least_is_least;
+pub use laws::{each_node_once, each_rule_by_itself, least_is_least};
 pub use typed::{Typed, check};

@@ -1,0 +1,11 @@
+-- N7: the operand of `&` is not the name of a global object. The place is the `&`.
+use Rattle.std.specs.Prelude.{Option, None, is_some}
+use Rattle.agxx_base.specs.declared.place.Place.{Place}
+use Rattle.cxx_types.specs.Sites.{object_of}
+use Rattle.cxx_types.specs.Forms as form
+use Rattle.cxx_types.specs.Forms.{Form}
+use Rattle.cxx_types.specs.Unless.{unless}
+
+abbrev pub homeless : Form → Option Place
+homeless (form.address w n operand) = unless (is_some (object_of w operand)) n.at
+homeless _ = None

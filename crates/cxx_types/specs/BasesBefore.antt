@@ -1,0 +1,10 @@
+-- N5: the base of a class is no class that is declared before. The place is the base's name.
+use Rattle.std.specs.Prelude.{Option, Some, None, is_some}
+use Rattle.agxx_base.specs.declared.place.Place.{Place}
+use Rattle.cxx_types.specs.Forms as form
+use Rattle.cxx_types.specs.Forms.{Form}
+use Rattle.cxx_types.specs.Unless.{unless}
+
+abbrev pub baseless : Form → Option Place
+baseless (form.head w (Some name) class) = unless (is_some class.base) name.at
+baseless _ = None
