@@ -10,12 +10,11 @@ ghost use Rattle.step_machine.specs.Effects.{did};
 ghost use Rattle.step_machine.specs.Frame.{depth_of};
 ghost use Rattle.step_machine.specs.Machine.{reads_of};
 ghost use Rattle.step_machine.specs.Turn.{thread_at};
-ghost use Rattle.step_frame.specs.Outcomes.{local_effect};
 ghost use Rattle.step_frame.specs.Works.{item_of, number_of};
 ghost use Rattle.step_engine.specs.Effects.{effect_of};
 
 use crate::calls::{call, end, leave};
-use crate::effect::Effect;
+use crate::effect::{Effect, local};
 use crate::enter::{enter_on, run};
 use crate::members::{print, put, read, show};
 use crate::objects::{build, delete, make, new, unmake};
@@ -24,20 +23,10 @@ use agxx_base::{Memory, NumKind, ObjectId};
 use cxx_arith::{Value, convert, number};
 use cxx_core::{Expr, Stmt};
 use std::alloc::Global;
-use step_frame::{Frame, Outcome, Thread, Work, as_number};
+use step_frame::{Frame, Thread, Work, as_number};
 use step_machine::Datum;
 use step_setting::Setting;
 use step_world::{Heap, World};
-
-/// The effect of an item that touched its frame alone.
-fn local<'p>(outcome: Outcome) -> Effect<'p>
-    ensures { effect_of result ≡ local_effect outcome }
-{
-    match outcome {
-        Outcome::Stays => Effect::Stay,
-        Outcome::Stops(stop, at) => Effect::Stop(stop, at),
-    }
-}
 
 /// How many counted frames a thread has.
 pub(crate) fn depth_at(threads: &[Thread], thread: u32) -> usize

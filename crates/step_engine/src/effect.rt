@@ -1,7 +1,11 @@
 //! What comes of an item: for its thread an effect, and for the other threads a turn.
 
+ghost use Rattle.std.specs.Prelude.{◌≡◌};
+ghost use Rattle.step_frame.specs.Outcomes.{local_effect};
+ghost use Rattle.step_engine.specs.Effects.{effect_of};
+
 use agxx_base::{ClassId, ObjectId, Place};
-use step_frame::Frame;
+use step_frame::{Frame, Outcome};
 use step_machine::{Datum, Stop};
 use step_world::Change;
 
@@ -36,4 +40,14 @@ pub(crate) enum Turn<'p> {
     Ended(i32),
     Halted(Option<ObjectId>, Option<ClassId>),
     Stopped(Stop, Place),
+}
+
+/// The effect of an item that touched its frame alone.
+pub(crate) fn local<'p>(outcome: Outcome) -> Effect<'p>
+    ensures { effect_of result ≡ local_effect outcome }
+{
+    match outcome {
+        Outcome::Stays => Effect::Stay,
+        Outcome::Stops(stop, at) => Effect::Stop(stop, at),
+    }
 }

@@ -10,7 +10,7 @@ ghost use Rattle.step_machine.specs.World.{class_at};
 ghost use Rattle.step_machine.specs.Frame as frames;
 ghost use Rattle.step_engine.specs.Effects.{effect_of};
 
-use crate::effect::Effect;
+use crate::effect::{Effect, local};
 use crate::enter::{Entry, destruct, enter_on, frame_of, has_room, take_arguments};
 use agxx_base::{ClassId, FnId, Memory, ObjectId, Place};
 use cxx_core::{Expr, Function};
@@ -59,14 +59,16 @@ pub(crate) fn make<'p, H: Heap>(
 ) -> Result<Effect<'p>, Memory>
     ensures { IfOk result (λ effect. (frame.new, effect_of effect) ≡ did frame.old (spec.make setting.now depth (class_at world.now) at object.0 class (exprs_core arguments.now) frame.old)) }
 {
-    match arguments {
-        [] => build(alloc, setting, world, depth, at, object, class, frame),
-        [_, ..] => match world.class(object) {
-            None => Ok(Effect::Stop(Stop::Dead, at)),
-            Some(_) => {
-                frame.agenda.push(Work::Build(at, object, class))?;
-                frame.agenda.push_exprs(arguments)?;
-                Ok(Effect::Stay)
+    match world.class(object) {
+        None => Ok(Effect::Stop(Stop::Dead, at)),
+        Some(_) => match arguments {
+            [] => {
+                let constructor = setting.constructor_of(class);
+                enter_on(alloc, setting, depth, at, Some(object), constructor, frame)
+            }
+            [_, ..] => {
+                let build = Work::Build(at, object, class);
+                Ok(local(frame.evaluate_all(arguments, build)?))
             }
         },
     }
