@@ -24,7 +24,7 @@ use Rattle.cxx_types.specs.State.{State}
 use Rattle.cxx_types.specs.Conversion.{unary_type}
 use Rattle.cxx_types.specs.Expressions.{Typed, expr, exprs, call, operated, joined, grouped, cast, kind_of, passed, called_type, both, count, addressed, address_by, with_name, object_in}
 use Rattle.cxx_types.specs.Sites.{Site, variable_meant, object_of}
-use Rattle.cxx_types.specs.Types.{type_of, fit, type_of_call, address_type, callable, creatable, type_of_param, passes}
+use Rattle.cxx_types.specs.Types.{type_of_expr, fit, type_of_call, address_type, callable, creatable, type_of_param, passes}
 use Rattle.cxx_types.specs.Unless.{unless}
 use Rattle.cxx_types.specs.Forms as form
 use Rattle.cxx_types.specs.Forms.{Form, forms_of, forms_of_callee, forms_of_arguments, forms_of_call, unless_object}
@@ -84,21 +84,21 @@ address-gives m w fs es k h n forms operand p o l t (object r class) walk =
 -- ---- operators of one operand
 
 operated-gives : (m : Counts) (w : Site) (fs : List Refusal) (es : List Entry) (k : ℕ) → length es ≡ k → (i : ℕ) (n : Node) (o : UnOp) (x : ExprTree)
-    → Gives (λ s. (s, unary_type o (type_of w x))) m w (told m (form.operand w n o x) fs) k (operated i n o (st m w fs es, type_of w x))
+    → Gives (λ s. (s, unary_type o (type_of_expr w x))) m w (told m (form.operand w n o x) fs) k (operated i n o (st m w fs es, type_of_expr w x))
 operated-gives m w fs es k h i n o x = simp required-told (record { entries = _; is = refl; longer = as-long es _ _ h })
 
 -- ---- all expressions
 
 mutual
   pub expr-gives : (m : Counts) (w : Site) (t : ExprTree) (fs : List Refusal) (es : List Entry) (k : ℕ) → length es ≡ k
-      → Gives (λ s. (s, type_of w t)) m w (all_told m (forms_of w t) fs) (k + nodes_in_expr t) (expr w.context t (st m w fs es))
+      → Gives (λ s. (s, type_of_expr w t)) m w (all_told m (forms_of w t) fs) (k + nodes_in_expr t) (expr w.context t (st m w fs es))
   expr-gives m w (e.lit n number) fs es k h = same refl (omega arith) (record { entries = _; is = refl; longer = one-more es _ h })
   expr-gives m w (e.flag n is_set) fs es k h = same refl (omega arith) (record { entries = _; is = refl; longer = one-more es _ h })
   expr-gives m w (e.null n) fs es k h = same refl (omega arith) (record { entries = _; is = refl; longer = one-more es _ h })
   expr-gives m w (e.this n) fs es k h = same {k = suc k} refl (omega arith) (simp required-told (record { entries = _; is = refl; longer = one-more es _ h }))
   expr-gives m w (e.left l) fs es k h = left-gives m w fs es k h l
   expr-gives m w (e.unary n un.AddressOf x) fs es k h =
-      address-gives m w fs es k h n (forms_of w x) (λ s. expr w.context x s) _ _ _ (type_of w x) (addressed-agrees m w fs es x) (λ gs es1 k1 h1. expr-gives m w x gs es1 k1 h1)
+      address-gives m w fs es k h n (forms_of w x) (λ s. expr w.context x s) _ _ _ (type_of_expr w x) (addressed-agrees m w fs es x) (λ gs es1 k1 h1. expr-gives m w x gs es1 k1 h1)
   expr-gives m w (e.unary n o x) fs es k h =
       same {k = suc k + nodes_in_expr x} (sym (told-append m (forms_of w x) _ fs)) (omega arith)
       (after (λ y. operated (length es) n o y) (expr-gives m w x fs (es ++ blank ∷ []) (suc k) (one-more es blank h)) (λ es1 h1.
@@ -106,7 +106,7 @@ mutual
   expr-gives m w (e.binary n o a b) fs es k h =
       same {k = (suc k + nodes_in_expr a) + nodes_in_expr b} (sym (told-append m (forms_of w a) _ fs ∙ told-append m (forms_of w b) _ _)) (omega arith)
       (after (λ x. joined (length es) o x.1 (expr w.context b x.0)) (expr-gives m w a fs (es ++ blank ∷ []) (suc k) (one-more es blank h)) (λ es1 h1.
-      after (λ y. joined (length es) o (type_of w a) y) (expr-gives m w b _ es1 _ h1) (λ es2 h2.
+      after (λ y. joined (length es) o (type_of_expr w a) y) (expr-gives m w b _ es1 _ h1) (λ es2 h2.
       simp required-told (record { entries = _; is = refl; longer = as-long es2 _ _ h2 }))))
   expr-gives m w (e.paren n x) fs es k h =
       same {k = suc k + nodes_in_expr x} refl (omega arith)
@@ -138,7 +138,7 @@ mutual
       (after (λ x. let y = passed (expr_node first).at p x in exprs w.context ps (both before y.1) rest y.0) (expr-gives m w first fs es k h) (λ es1 h1.
       simp required-told
       (rightly (both-assoc before _ _)
-      (exprs-gives m w ps (both before (passes w.declared (type_of w first) (type_of_param w.declared p))) rest _ es1 _ h1))))
+      (exprs-gives m w ps (both before (passes w.declared (type_of_expr w first) (type_of_param w.declared p))) rest _ es1 _ h1))))
 
   pub call-gives : (m : Counts) (w : Site) (as_value : Bool) (c : CallTree) (fs : List Refusal) (es : List Entry) (k : ℕ) → length es ≡ k
       → Gives (λ s. (s, type_of_call w c)) m w (all_told m (forms_of_call w as_value c) fs) (k + nodes_in_call c) (call w.context as_value c (st m w fs es))

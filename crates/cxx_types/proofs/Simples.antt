@@ -35,7 +35,7 @@ use Rattle.cxx_types.specs.Expressions.{count, expr, exprs}
 use Rattle.cxx_types.specs.Locals.{local_declared}
 use Rattle.cxx_types.specs.Statements.{initial, local, simple, assigned, may_assign, counted_return, returned_nothing, returned_value, returned, lifecycle_is_accessible, deleted_type, deleted, printed, all_printed, started, thread}
 use Rattle.cxx_types.specs.Sites.{Site, is_usable, dtor_meant}
-use Rattle.cxx_types.specs.Types.{type_of, type_of_left}
+use Rattle.cxx_types.specs.Types.{type_of_expr, type_of_left}
 use Rattle.cxx_types.specs.TypesDisagree.{assigns, wrongly_returned, wrongly_deleted, has_result}
 use Rattle.cxx_types.specs.NotAllowedHere.{return_misplaced, main_started}
 use Rattle.cxx_types.specs.NotAccessible.{deleted_hidden}
@@ -86,7 +86,7 @@ simple-gives m w fs es k h (t.assign a) =
     same {k = (k + nodes_in_left a.left) + nodes_in_expr a.value} (sym (told-append m (forms_of_left w a.left) _ fs ∙ told-append m (forms_of w a.value) _ _)) (omega arith)
     (after (λ x. assigned a.sign x.1 (expr w.context a.value x.0)) (left-gives m w fs es k h a.left) (λ es1 h1.
     after (λ y. assigned a.sign (type_of_left w a.left) y) (expr-gives m w a.value _ es1 _ h1) (λ es2 h2.
-    assigned-gives m w _ es2 _ h2 a.sign (type_of_left w a.left) (type_of w a.value))))
+    assigned-gives m w _ es2 _ h2 a.sign (type_of_left w a.left) (type_of_expr w a.value))))
 simple-gives m w fs es k h (t.bump b) =
     same {k = k + nodes_in_left b.left} (sym (told-append m (forms_of_left w b.left) _ fs)) refl
     (after (λ x. required rule.N3 b.sign (may_be_bumped x.1) x.0) (left-gives m w fs es k h b.left) (λ es1 h1.
@@ -104,7 +104,7 @@ nothing-gives m w fs es k h at owner.Lifecycle = record { entries = es; is = ref
 nothing-gives m w fs es k h at owner.Global = record { entries = es; is = refl; longer = h }
 
 value-gives : (m : Counts) (w : Site) (fs : List Refusal) (es : List Entry) (k : ℕ) → length es ≡ k → (at : Place) (e : ExprTree) (o : Owner)
-    → Gives (λ s. s) m w (told_by rule.N3 (wrongly_returned w o at (Some e)) (told_by rule.N8 (return_misplaced at o) fs)) k (returned_value o at (st m w fs es, type_of w e))
+    → Gives (λ s. s) m w (told_by rule.N3 (wrongly_returned w o at (Some e)) (told_by rule.N8 (return_misplaced at o) fs)) k (returned_value o at (st m w fs es, type_of_expr w e))
 value-gives m w fs es k h at e (owner.Function type) = simp required-told (record { entries = es; is = refl; longer = h })
 value-gives m w fs es k h at e owner.Lifecycle = record { entries = es; is = refl; longer = h }
 value-gives m w fs es k h at e owner.Global = record { entries = es; is = refl; longer = h }
@@ -150,7 +150,7 @@ pub deleted-gives : (m : Counts) (w : Site) (fs : List Refusal) (es : List Entry
 unfolding deleted
 deleted-gives m w fs es k h at e =
     same {k = k + nodes_in_expr e} (sym (told-append m (forms_of w e) _ fs)) refl
-    (after (λ x. deleted_type w.context at x.1 x.0) (expr-gives m w e fs es k h) (λ es1 h1. type-gives m w _ es1 _ h1 at (type_of w e)))
+    (after (λ x. deleted_type w.context at x.1 x.0) (expr-gives m w e fs es k h) (λ es1 h1. type-gives m w _ es1 _ h1 at (type_of_expr w e)))
 
 -- ---- prints
 

@@ -20,7 +20,7 @@ use Rattle.cxx_types.specs.Calls.{access_of}
 use Rattle.cxx_types.specs.Classes.{is_derivable, base_ctor_in, base_dtor_in}
 use Rattle.cxx_types.specs.Expressions.{both}
 use Rattle.cxx_types.specs.Sites.{Site, variable_is_usable, holder_of, member_meant, member_is_usable, method_meant, method_is_usable, function_meant, class_meant, ctor_meant, dtor_meant, is_usable}
-use Rattle.cxx_types.specs.Types.{type_of}
+use Rattle.cxx_types.specs.Types.{type_of_expr}
 use Rattle.cxx_types.specs.Forms as form
 use Rattle.cxx_types.specs.Forms.{Form}
 use Rattle.cxx_types.specs.Unless.{unless}
@@ -75,7 +75,7 @@ hidden (form.base w at b) = base_hidden w b
 hidden (form.member w at q) = member_hidden w q.name (holder_of w q.base)
 hidden (form.call w n callee count as_value) = callee_hidden w callee
 hidden (form.creation w name count) = constructor_hidden w name.at (class_meant w name)
-hidden (form.deleted w at e) = deleted_hidden w at (type_of w e)
+hidden (form.deleted w at e) = deleted_hidden w at (type_of_expr w e)
 hidden (form.head w base class) = unless (both (is_derivable (base_ctor_in w.declared class)) (is_derivable (base_dtor_in w.declared class))) class.name.at
 hidden (form.object w o) = constructor_hidden w o.name.at (class_meant w o.class)
 hidden (form.object_end w o) = destructor_hidden w o.name.at (class_meant w o.class)

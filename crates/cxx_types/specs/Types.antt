@@ -100,27 +100,27 @@ passes d (Some from) (Some to) = may_convert d (Some from) (Some to)
 -- ---- all expressions
 
 abbrev mutual
-  pub type_of : Site → ExprTree → Option ValueType
-  type_of w (e.lit n number) = Some (value.Number number.kind)
-  type_of w (e.flag n is_set) = Some truth
-  type_of w (e.null n) = Some value.Null
-  type_of w (e.this n) = own_type w.context.class
-  type_of w (e.left l) = type_of_left w l
-  type_of w (e.unary n un.AddressOf operand) = address_type (object_of w operand)
-  type_of w (e.unary n o operand) = unary_type o (type_of w operand)
-  type_of w (e.binary n o a b) = binary_type w.declared o.item (type_of w a) (type_of w b)
-  type_of w (e.paren n inner) = type_of w inner
-  type_of w (e.cast n t operand) = cast_type (kind_of t) (type_of w operand)
-  type_of w (e.call k) = type_of_call w k
-  type_of w (e.new n class) = called_type (creatable w class 0) true
-  type_of w (e.new_with n class arguments) =
+  pub type_of_expr : Site → ExprTree → Option ValueType
+  type_of_expr w (e.lit n number) = Some (value.Number number.kind)
+  type_of_expr w (e.flag n is_set) = Some truth
+  type_of_expr w (e.null n) = Some value.Null
+  type_of_expr w (e.this n) = own_type w.context.class
+  type_of_expr w (e.left l) = type_of_left w l
+  type_of_expr w (e.unary n un.AddressOf operand) = address_type (object_of w operand)
+  type_of_expr w (e.unary n o operand) = unary_type o (type_of_expr w operand)
+  type_of_expr w (e.binary n o a b) = binary_type w.declared o.item (type_of_expr w a) (type_of_expr w b)
+  type_of_expr w (e.paren n inner) = type_of_expr w inner
+  type_of_expr w (e.cast n t operand) = cast_type (kind_of t) (type_of_expr w operand)
+  type_of_expr w (e.call k) = type_of_call w k
+  type_of_expr w (e.new n class) = called_type (creatable w class 0) true
+  type_of_expr w (e.new_with n class arguments) =
       called_type (creatable w class (count arguments)) (fit w (creatable w class (count arguments)).params arguments)
 
   -- whether each argument has a type that converts to that of its parameter
   pub fit : Site → List Param → ExprTrees → Bool
   fit w params e.no_exprs = true
   fit w [] (e.more_exprs first rest) = false
-  fit w (p ∷ ps) (e.more_exprs first rest) = both (passes w.declared (type_of w first) (type_of_param w.declared p)) (fit w ps rest)
+  fit w (p ∷ ps) (e.more_exprs first rest) = both (passes w.declared (type_of_expr w first) (type_of_param w.declared p)) (fit w ps rest)
 
   pub type_of_call : Site → CallTree → Option ValueType
   type_of_call w (e.calls n callee arguments) =

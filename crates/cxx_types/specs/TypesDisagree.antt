@@ -30,7 +30,7 @@ use Rattle.cxx_types.specs.Calls.{is_void, result_type}
 use Rattle.cxx_types.specs.Expressions.{kind_of}
 use Rattle.cxx_types.specs.Programs.{const_type}
 use Rattle.cxx_types.specs.Sites.{Site, thing_held, holder_of, member_meant, member_held, method_meant, function_meant}
-use Rattle.cxx_types.specs.Types.{type_of, type_of_left, type_of_param}
+use Rattle.cxx_types.specs.Types.{type_of_expr, type_of_left, type_of_param}
 use Rattle.cxx_types.specs.Forms as form
 use Rattle.cxx_types.specs.Forms.{Form}
 use Rattle.cxx_types.specs.Unless.{unless}
@@ -78,7 +78,7 @@ assigns d (Some o) to from = are_numbers to from
 -- a value is returned where there is a result to whose type it converts, and none where there is no result
 abbrev pub returns : Site → TypeName → Option ExprTree → Bool
 returns w type None = is_void type
-returns w type (Some e) = if is_void type then false else may_convert w.declared (type_of w e) (result_type w.declared type)
+returns w type (Some e) = if is_void type then false else may_convert w.declared (type_of_expr w e) (result_type w.declared type)
 
 abbrev pub wrongly_returned : Site → Owner → Place → Option ExprTree → Option Place
 wrongly_returned w (owner.Function type) at e = unless (returns w type e) at
@@ -104,18 +104,18 @@ mistyped (form.variable w r) = unless (is_value (thing_held w r)) r.node.at
 mistyped (form.base w at b) = no_members w at b
 mistyped (form.member w at q) = behind_is_no_value w at q.name (holder_of w q.base)
 mistyped (form.call w n callee count as_value) = call_no_result w n callee as_value
-mistyped (form.operand w n o x) = unless (takes_one o (type_of w x)) n.at
-mistyped (form.operands w o a b) = unless (takes w.declared o.item (type_of w a) (type_of w b)) o.at
-mistyped (form.cast w t x) = unless (casts (kind_of t) (type_of w x)) (expr_node x).at
-mistyped (form.argument w p x) = unless (may_convert w.declared (type_of w x) (type_of_param w.declared p)) (expr_node x).at
-mistyped (form.initial w t i) = unless (may_convert w.declared (type_of w i.value) (value_of (thing_of w.declared t))) i.sign
-mistyped (form.assigned w a) = unless (assigns w.declared a.sign.item (type_of_left w a.left) (type_of w a.value)) a.sign.at
+mistyped (form.operand w n o x) = unless (takes_one o (type_of_expr w x)) n.at
+mistyped (form.operands w o a b) = unless (takes w.declared o.item (type_of_expr w a) (type_of_expr w b)) o.at
+mistyped (form.cast w t x) = unless (casts (kind_of t) (type_of_expr w x)) (expr_node x).at
+mistyped (form.argument w p x) = unless (may_convert w.declared (type_of_expr w x) (type_of_param w.declared p)) (expr_node x).at
+mistyped (form.initial w t i) = unless (may_convert w.declared (type_of_expr w i.value) (value_of (thing_of w.declared t))) i.sign
+mistyped (form.assigned w a) = unless (assigns w.declared a.sign.item (type_of_left w a.left) (type_of_expr w a.value)) a.sign.at
 mistyped (form.bumped w b) = unless (may_be_bumped (type_of_left w b.left)) b.sign
 mistyped (form.returned w at e) = wrongly_returned w w.context.owner at e
-mistyped (form.deleted w at e) = wrongly_deleted at (type_of w e)
-mistyped (form.printed w e) = unless (may_be_printed (type_of w e)) (expr_node e).at
+mistyped (form.deleted w at e) = wrongly_deleted at (type_of_expr w e)
+mistyped (form.printed w e) = unless (may_be_printed (type_of_expr w e)) (expr_node e).at
 mistyped (form.started w at r) = has_result r.node.at (free_signature w.declared r.name.item.0)
 mistyped (form.member_initialiser w class name count) = mutex_initialised w name.at (named class.members name.item.0)
-mistyped (form.member_value w name t e) = unless (may_convert w.declared (type_of w e) (value_of (thing_of w.declared t))) name.at
+mistyped (form.member_value w name t e) = unless (may_convert w.declared (type_of_expr w e) (value_of (thing_of w.declared t))) name.at
 mistyped (form.constant w t k) = unless (may_convert w.declared (Some (const_type k.item)) (value_of (thing_of w.declared t))) k.at
 mistyped _ = None

@@ -1,4 +1,4 @@
--- Places at which something is missing.
+-- Where a rule is violated, of what stands in a program.
 use Rattle.std.specs.Prelude.{Bool, true, false, List, [], ◌∷◌, Option, Some, None}
 use Rattle.agxx_base.specs.declared.place.Place.{Place}
 use Rattle.cxx_types.specs.Forms.{Form}
