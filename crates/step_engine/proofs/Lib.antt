@@ -3,3 +3,4 @@ mod ExitValues
 mod Offs
 mod Starts
 mod Overs
+mod Makes

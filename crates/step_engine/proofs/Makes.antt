@@ -1,0 +1,17 @@
+-- A global object whose constructor has arguments.
+use Rattle.std.proofs.Common.{◌≡◌, ℕ, ◌≤◌, List, [], ◌∷◌, length, Option, Some, refl, arith}
+use Rattle.agxx_base.specs.declared.ids.ClassId.{ClassId}
+use Rattle.agxx_base.specs.declared.place.Place.{Place}
+use Rattle.cxx_core.specs.declared.expr.Expr.{Expr}
+use Rattle.cxx_core.specs.ExprView.{exprs_core}
+use Rattle.step_machine.specs.Setting.{Setting}
+use Rattle.step_machine.specs.Item as it
+use Rattle.step_machine.specs.Item.{exprs_on}
+use Rattle.step_machine.specs.Frame.{Frame}
+use Rattle.step_machine.specs.ActObjects.{make_by}
+use Rattle.step_machine.specs.ActValues.{has}
+
+pub with_arguments : (es : List Expr) → 1 ≤ length es → (s : Setting) (depth : ℕ) (class_of : ℕ → Option ClassId) (at : Place) (o : ℕ) (class live : ClassId) (f : Frame)
+    → make_by s depth class_of at o class (exprs_core es) (Some live) f ≡ has (exprs_on (exprs_core es) (it.build at o class ∷ f.items)) f
+with_arguments [] p s depth class_of at o class live f = absurd (omega arith)
+with_arguments (e ∷ es) p s depth class_of at o class live f = refl
