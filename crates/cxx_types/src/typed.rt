@@ -206,3 +206,6 @@ impl Typed {
         self.declared.derives(class, from)
     }
 }
+
+#[cfg(test)]
+mod tests;
