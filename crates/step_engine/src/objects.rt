@@ -46,7 +46,6 @@ pub(crate) fn build<'p, H: Heap>(
 }
 
 /// Constructs a global object, whose arguments are evaluated first where there are some.
-#[tactic(auto, using(crate::proofs::Makes::with_arguments))]
 pub(crate) fn make<'p, H: Heap>(
     alloc: Global,
     setting: &Setting<'p>,
