@@ -47,7 +47,7 @@ def main():
     check, place = sys.argv[1:]
     program.skip_without(check, "g++")
     paths = sorted(pathlib.Path(place).glob("*.cc"))
-    with tempfile.TemporaryDirectory() as folder, concurrent.futures.ThreadPoolExecutor() as pool:
+    with tempfile.TemporaryDirectory() as folder, concurrent.futures.ThreadPoolExecutor(program.WORKERS) as pool:
         faults = [found for found in pool.map(lambda path: fault(path, folder), paths) if found]
     program.end(check, faults, len(paths), "agree with g++")
 

@@ -8,6 +8,7 @@ import subprocess
 import sys
 
 PROGRAM = pathlib.Path(os.environ.get("AGXX", "crates/agxx_main/out/agxx_main")).resolve()
+WORKERS = os.cpu_count()
 STATUSES = {"ended": 0, "stopped": 3, "running": 4, "halted": 5}
 COUNTS = re.compile(r"turns (\d+) source (\d+) inserted (\d+) blocked (\d+) idle (\d+) flips 0")
 

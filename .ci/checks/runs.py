@@ -82,7 +82,7 @@ def fault(case):
 def main():
     program.skip_without("runs")
     table = list(cases())
-    with concurrent.futures.ThreadPoolExecutor() as pool:
+    with concurrent.futures.ThreadPoolExecutor(program.WORKERS) as pool:
         faults = [found for found in pool.map(fault, table) if found]
     program.end("runs", faults, len(table), "as wanted")
 
