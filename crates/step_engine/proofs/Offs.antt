@@ -1,5 +1,5 @@
 -- A thread that has nothing to do.
-use Rattle.std.proofs.Common.{◌≡◌, ℕ, List, [], ◌∷◌, Bool, true, false, Option, Some, None, slice_get, slice_set, refl, ap, sym, ◌∙◌, get_or, subst, MatchOption}
+use Rattle.std.proofs.Common.{◌≡◌, ℕ, List, [], ◌∷◌, Bool, true, false, Option, Some, None, slice_get, slice_set, refl, ap, sym, ◌∙◌, get_or, subst, MatchOption, Result, Ok, Err, IfOk}
 use Rattle.std.proofs.lemmas.Option.{get_or_from_slice_get}
 use Rattle.std.proofs.lemmas.List.{set-get_or}
 use Rattle.step_machine.specs.Frame.{Frame}
@@ -8,7 +8,14 @@ use Rattle.step_frame.specs.declared.work.Work.{Work}
 use Rattle.step_frame.specs.Works.{item_of}
 use Rattle.step_machine.specs.Turn.{Threads, put_back}
 use Rattle.step_engine.specs.Turns.{has_items, are_some}
-use Rattle.step_machine.specs.Machine.{Off, taken_off, off_at, off_frames, off_items}
+use Rattle.step_machine.specs.Setting.{Setting}
+use Rattle.step_machine.specs.World.{World}
+use Rattle.step_machine.specs.Effects.{Did, did}
+use Rattle.step_engine.specs.declared.effect.Turn.{Turn}
+use Rattle.step_engine.specs.Effects.{turn_of}
+use Rattle.step_machine.specs.Act.{act}
+use Rattle.step_machine.specs.Inserted.{is_inserted}
+use Rattle.step_machine.specs.Machine.{Off, Turned, taken_off, off_at, off_frames, off_items, reads_of, put_at, turn_off, turned}
 
 off-items : (t : ℕ) (ths : Threads) (f : Frame) (fs : List Frame) (is : List Item) → are_some is ≡ false → off_items t ths f fs is ≡ None
 off-items t ths f fs [] p = refl
@@ -40,3 +47,25 @@ took-some old new o r m e = subst (Took old new) e m
 
 pub took-none : (old new : List Frame) (o : Option (Frame × Work)) → Took old new o → o ≡ None → (new ≡ old) × (has_items old ≡ false)
 took-none old new o m e = subst (Took old new) e m
+
+-- the turn of a thread whose item was taken off
+pub turned-is : (s : Setting) (w : World) (t : ℕ) (ths rest : Threads) (f : Frame) (i : Item) (r : Turned) → taken_off t ths ≡ Some (f, i, rest)
+    → r ≡ put_at t rest (is_inserted s i f) (slice_get rest t) i (did f (act s (reads_of s w t rest) t i f)) → r ≡ turned s w t ths
+turned-is s w t ths rest f i r h e = e ∙ sym (ap (turn_off s w t ths) h)
+
+-- what `take_off` answered
+abbrev pub TookOff : ℕ → Threads → Threads → Option (Frame × Work) → Type 0
+TookOff t ths rest o = MatchOption o ((rest ≡ ths) × (taken_off t ths ≡ None)) (λ r. taken_off t ths ≡ Some (r.0, item_of r.1, rest))
+
+took-off : (t : ℕ) (ths rest : Threads) (o : Option (Frame × Work)) (f : Frame) (w : Work) → TookOff t ths rest o → o ≡ Some (f, w) → taken_off t ths ≡ Some (f, item_of w, rest)
+took-off t ths rest o f w m e = subst (TookOff t ths rest) e m
+
+-- the turn of a thread whose frames are put back
+pub turned-ok : {E : Type 0} (s : Setting) (w : World) (t : ℕ) (ths rest new : Threads) (o : Option (Frame × Work)) (f : Frame) (work : Work) (inserted : Bool) (d : Did) (result : Result (Turn × Bool) E)
+    → TookOff t ths rest o → o ≡ Some (f, work) → inserted ≡ is_inserted s (item_of work) f → d ≡ did f (act s (reads_of s w t rest) t (item_of work) f)
+    → IfOk result (λ r. ◌≡◌ {A = Turned} (new, turn_of r.0, r.1) (put_at t rest inserted (slice_get rest t) (item_of work) d))
+    → IfOk result (λ r. ◌≡◌ {A = Turned} (new, turn_of r.0, r.1) (turned s w t ths))
+turned-ok s w t ths rest new o f work inserted d (Ok r) m e i h p =
+    turned-is s w t ths rest f (item_of work) (new, turn_of r.0, r.1) (took-off t ths rest o f work m e)
+    (p ∙ (λ k. put_at t rest (i k) (slice_get rest t) (item_of work) (h k)))
+turned-ok s w t ths rest new o f work inserted d (Err e) m i j h p = tt

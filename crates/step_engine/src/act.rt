@@ -7,9 +7,11 @@ ghost use Rattle.cxx_core.specs.StmtView.{stmt_core};
 ghost use Rattle.step_machine.specs.Act as spec;
 ghost use Rattle.step_machine.specs.Data as datums;
 ghost use Rattle.step_machine.specs.Effects.{did};
-ghost use Rattle.step_machine.specs.Frame.{depth_of};
+ghost use Rattle.step_machine.specs.ActObjects as objects;
+ghost use Rattle.step_machine.specs.Frame.{any_on, depth_of};
 ghost use Rattle.step_machine.specs.Machine.{reads_of};
 ghost use Rattle.step_machine.specs.Turn.{thread_at};
+ghost use Rattle.step_machine.specs.World.{class_at};
 ghost use Rattle.step_frame.specs.Works.{item_of, number_of};
 ghost use Rattle.step_engine.specs.Effects.{effect_of};
 
@@ -19,7 +21,7 @@ use crate::enter::{enter_on, run};
 use crate::members::{print, put, read, show};
 use crate::objects::{build, delete, make, new, unmake};
 use crate::threads::{join, lock, spawn, unlock};
-use agxx_base::{Memory, NumKind, ObjectId};
+use agxx_base::{ClassId, Memory, NumKind, ObjectId, Place};
 use cxx_arith::{Value, convert, number};
 use cxx_core::{Expr, Stmt};
 use std::alloc::Global;
@@ -160,6 +162,23 @@ fn exit_value(datum: Datum) -> i32
     number(convert(NumKind::I32, as_number(datum))) as i32
 }
 
+/// `delete`, with as many frames below as the thread has.
+fn act_delete<'p, H: Heap>(
+    alloc: Global,
+    setting: &Setting<'p>,
+    world: &World<H>,
+    threads: &[Thread<'p>],
+    thread: u32,
+    at: Place,
+    class: ClassId,
+    frame: &mut Frame<'p>,
+) -> Result<Effect<'p>, Memory>
+    ensures { IfOk result (λ effect. (frame.new, effect_of effect) ≡ did frame.old (objects.delete setting.now (depth_of (thread_at threads.now thread)) (class_at world.now) (λ o. any_on o threads.now) at class frame.old)) }
+{
+    let depth = depth_at(threads, thread);
+    delete(alloc, setting, world, threads, depth, at, class, frame)
+}
+
 /// What an item does that was taken off a frame.
 pub(crate) fn act<'p, H: Heap>(
     alloc: Global,
@@ -216,7 +235,7 @@ pub(crate) fn act<'p, H: Heap>(
         Work::Call(callee) => call(alloc, setting, world, depth, &callee, frame),
         Work::New(at, class) => new(alloc, setting, depth, at, class, world.made(), frame),
         Work::Delete(at, class) => {
-            delete(alloc, setting, world, threads, depth, at, class, frame)
+            act_delete(alloc, setting, world, threads, thread, at, class, frame)
         }
         Work::Spawn(at, name, function) => {
             spawn(alloc, setting, threads.len(), at, name, function, frame)

@@ -1,6 +1,6 @@
 //! The turn of a thread.
 
-ghost use Rattle.std.specs.Prelude.{◌≡◌, ◌∷◌, ◌<◌, length, Bool, false, Some, None, slice_get, IfOk, OnOk, MatchOption};
+ghost use Rattle.std.specs.Prelude.{◌≡◌, ◌∷◌, ◌<◌, length, false, Some, None, slice_get, IfOk, OnOk, MatchOption};
 ghost use Rattle.step_machine.specs.Machine.{taken_off, put_at, turned};
 ghost use Rattle.step_machine.specs.Turn.{handed, settled, put_back};
 ghost use Rattle.step_frame.specs.Works.{item_of};
@@ -129,18 +129,20 @@ fn take_off<'p>(
     }
 }
 
-/// Puts the frames of one of the threads as an item made them.
+/// Puts the frames of one of the threads as an item made them, and tells on whether the step is inserted.
 fn put<'p>(
     thread: u32,
     threads: &mut Vec<Thread<'p>>,
+    is_inserted: bool,
     work: Work<'p>,
     frame: Frame<'p>,
     effect: Effect<'p>,
-) -> Result<Turn<'p>, Memory>
+) -> Result<(Turn<'p>, bool), Memory>
     requires { thread < length threads.old.items }
-    ensures { (inserted : Bool) → IfOk result (λ turn. (threads.new.items, turn_of turn, inserted) ≡ put_at thread threads.old.items inserted (slice_get threads.old.items thread) (item_of work.entry) (frame.entry, effect_of effect.entry)) }
+    ensures { IfOk result (λ r. (threads.new.items, turn_of r.0, r.1) ≡ put_at thread threads.old.items is_inserted (slice_get threads.old.items thread) (item_of work.entry) (frame.entry, effect_of effect.entry)) }
 {
-    settle(work, frame, effect, &mut threads[thread as usize])
+    let turn = settle(work, frame, effect, &mut threads[thread as usize])?;
+    Ok((turn, is_inserted))
 }
 
 /// The turn of one of the threads, and whether a step of it is inserted.
@@ -170,8 +172,7 @@ pub(crate) fn turn<'p, H: Heap>(
             if thread as usize >= threads.len() {
                 return Err(Memory);
             }
-            let turn = put(thread, threads, work, frame, effect)?;
-            Ok((turn, inserted))
+            put(thread, threads, inserted, work, frame, effect)
         }
     }
 }

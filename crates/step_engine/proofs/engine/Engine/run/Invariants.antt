@@ -1,7 +1,7 @@
 use Rattle.std.proofs.Common.{◌≡◌, ◌≤◌}
 use Rattle.step_machine.specs.Runs.{nothing_counted}
 use Rattle.step_engine.specs.TurnRuns.{after_turns, counts_of, turns_in}
-use Rattle.step_engine.proofs.runs.Engine.run.Given as goal
+use Rattle.step_engine.proofs.engine.Engine.run.Given as goal
 
 abbrev pub invariant-loop-index : goal.invariant-loop-index
 invariant-loop-index g l =
