@@ -1,0 +1,4 @@
+pub mod Parts
+pub mod Leasts
+pub mod Items
+pub mod Sums

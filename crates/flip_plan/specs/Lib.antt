@@ -1,0 +1,8 @@
+pub mod Texts
+pub mod Numbers
+pub mod Plans
+pub mod Kinds
+pub mod Refusals
+pub mod Rules
+pub mod Reading
+pub mod Steps
