@@ -6,3 +6,4 @@ pub mod Refusals
 pub mod Rules
 pub mod Reading
 pub mod Steps
+pub mod Laws

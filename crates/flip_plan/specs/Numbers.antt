@@ -8,13 +8,12 @@ use Rattle.flip_plan.specs.Texts.{Word, parts}
 abbrev pub is_digit : ℕ → Bool
 is_digit b = nat_le 48 b && nat_le b 57
 
--- one more decimal digit, up to the largest number of 32 bits
 abbrev pub with_digit : ℕ → ℕ → ℕ
-with_digit n b = min (n * 10 + (b - 48)) (2 ^ 32 - 1)
+with_digit n b = n * 10 + (b - 48)
 
 -- The number that decimal digits stand for. From 2^32 - 1 on, which is above every limit, it counts as 2^32 - 1.
 abbrev pub value : List ℕ → ℕ
-value digits = fold with_digit 0 digits
+value digits = min (fold with_digit 0 digits) (2 ^ 32 - 1)
 
 -- A number is one digit or more, of which any may be 0. Any other word is malformed.
 abbrev pub number : List ℕ → Option ℕ

@@ -15,6 +15,7 @@
 mod build;
 mod check;
 mod flip;
+mod laws;
 mod line;
 mod lines;
 mod numbers;
@@ -27,5 +28,9 @@ mod runs;
 mod seen;
 
 pub use flip::PlannedFlip;
+pub use laws::least_is_least;
 pub use plan::{Plan, default_plan};
 pub use read::read_plan;
+
+#[cfg(test)]
+mod tests;

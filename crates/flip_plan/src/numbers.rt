@@ -1,6 +1,6 @@
 //! Numbers and items.
 
-ghost use Rattle.std.specs.Prelude.{◌≡◌, ◌≤◌, fold, length, IfSome};
+ghost use Rattle.std.specs.Prelude.{◌≡◌, ◌-◌, ◌^◌, min};
 ghost use Rattle.std.specs.List.{list_all};
 ghost use Rattle.flip_plan.specs.Numbers as spec;
 
@@ -22,8 +22,9 @@ fn is_digit(b: u8) -> bool
     b'0' <= b && b <= b'9'
 }
 
+/// One digit more, up to the largest number of 32 bits.
 fn with_digit(n: u32, b: u8) -> u32
-    ensures { result ≡ spec.with_digit n b }
+    ensures { result ≡ min (spec.with_digit n b) (2 ^ 32 - 1) }
 {
     let digit = b.saturating_sub(b'0') as u32;
     n.saturating_mul(10).saturating_add(digit)
