@@ -88,7 +88,8 @@ abbrev pub room_past : ℕ → Option Item → ℕ
 room_past room None = room
 room_past room (Some item) = room - item.count
 
--- a thread above 63, or more turns than there is room for
+-- A thread above 63, or more turns than there is room for. Once an item has passed the total no room is left, so each item
+-- behind it passes it too.
 abbrev pub is_too_much : ℕ → Option Item → Bool
 is_too_much room None = false
 is_too_much room (Some item) = nat_lt 63 item.thread || nat_lt room item.count
@@ -101,10 +102,11 @@ abbrev pub ahead_of_count : Option Item → ℕ
 ahead_of_count None = 0
 ahead_of_count (Some item) = item.ahead
 
+-- a count above its limit is told at the N
 abbrev pub large_count : Line → Word → Option Item → List Refusal
 large_count line word item = if is_too_often item then refusal rule.F3 line (word.column + ahead_of_count item) ∷ [] else []
 
--- what an item violates is told at the item, and a count that is too large at the N
+-- all else that an item violates is told at the item
 abbrev pub large_item : Line → ℕ → Word → Option Item → List Refusal
 large_item line room word item = if is_too_much room item then refusal rule.F3 line word.column ∷ large_count line word item else large_count line word item
 
