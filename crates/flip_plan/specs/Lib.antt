@@ -1,0 +1,9 @@
+pub mod Texts
+pub mod Numbers
+pub mod Plans
+pub mod Kinds
+pub mod Refusals
+pub mod Rules
+pub mod Reading
+pub mod Steps
+pub mod Laws
