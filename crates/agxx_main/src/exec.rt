@@ -7,11 +7,11 @@ ghost use Rattle.agxx_base.specs.declared.kind.Mode.TheVariants.{Woven};
 ghost use Rattle.agxx_main.specs.Answers as answers;
 ghost use Rattle.cxx_tree.specs.ProgramTree.{program_tree};
 ghost use Rattle.cxx_normal.specs.Normal.{with_main, normal_among};
-ghost use Rattle.agxx_main.specs.Answers.{normal_answer, IsRunOf};
+ghost use Rattle.cxx_types.specs.Violations.{refusal_of};
+ghost use Rattle.agxx_main.specs.Answers.{names_in, IsProgramIn, HasProgram, IsRunOf};
 ghost use Rattle.agxx_main.specs.Outcome.{IsExecDue};
 
 use crate::answer::Answer;
-use crate::run::run;
 use agxx_base::{
     Fault, Files, Memory, Mode, Names, Place, ReadError, Refusal, Rule, Text, read_whole,
 };
@@ -20,10 +20,14 @@ use cxx_normal::normal;
 use cxx_parse::parse_program;
 use cxx_tree::Program;
 use cxx_types::check;
+use first_form::{output_of, statements_of};
 use std::alloc::Global;
 
 /// The most bytes of a program file that is read in mode Woven.
 const LARGEST_PROGRAM: u32 = 16_777_216;
+
+/// The most bytes of a program of the first form.
+const LARGEST_FIRST_FORM: usize = 65_536;
 
 fn at_beginning(rule: Rule) -> Refusal
     ensures { result ≡ answers.at_beginning rule }
@@ -38,33 +42,64 @@ fn at_beginning(rule: Rule) -> Refusal
     }
 }
 
-/// The answer for a program in normal form.
-fn answer_normal(
-    alloc: Global,
-    file: &Text,
-    names: &Names,
-    normal: Program,
-) -> Result<Answer, Memory>
-    ensures { IfOk result (λ answer. answer ≡ normal_answer file.now names.now (program_tree normal)) }
+/// The answer for the tokens of a program.
+fn run(alloc: Global, file: &Text, text: &Text, toks: &Toks) -> Result<Answer, Memory>
+    requires small { length text.now ≤ 16777216 }
+    requires tokens { HasTokens Woven 0 text.now (tokens_of toks.now.items) toks.now.end }
+    requires program { HasProgram (tokens_of toks.now.items) toks.now.end }
+    ensures { IfOk result (λ answer. IsRunOf file.now text.now answer) }
+{
+    if text.bytes().len() > LARGEST_FIRST_FORM {
+        return Answer::refused(alloc, file, at_beginning(Rule::U1));
+    }
+    match statements_of(alloc, toks.as_slice())? {
+        None => Answer::refused(alloc, file, at_beginning(Rule::U1)),
+        Some(statements) => Answer::ended(alloc, output_of(alloc, statements.as_slice())?),
+    }
+}
+
+/// The rule on names and types that a program violates, and where.
+fn violation(alloc: Global, names: &Names, normal: Program) -> Result<Option<Refusal>, Memory>
+    ensures { IfOk result (λ violation. refusal_of names.now Woven (program_tree normal) ≡ violation) }
 {
     match check(alloc, names, normal, Mode::Woven) {
-        Ok(typed) => run(alloc, file, names, typed.program()),
-        Err(Fault::Refused(refusal)) => Answer::refused(alloc, file, refusal),
+        Ok(_) => Ok(None),
+        Err(Fault::Refused(refusal)) => Ok(Some(refusal)),
         Err(Fault::Memory) => Err(Memory),
     }
 }
 
-/// The answer for a program, for whose normal form `main` gets a number among the names.
-fn answer_program(
+/// The same in the normal form of a program, for which `main` gets a number among the names.
+fn violation_of(
+    alloc: Global,
+    names: &mut Names,
+    program: Program,
+) -> Result<Option<Refusal>, Memory>
+    ensures { IfOk result (λ violation. refusal_of (with_main names.old) Woven (normal_among (with_main names.old) (program_tree program)) ≡ violation) }
+{
+    let normal = normal(alloc, &program, names)?;
+    violation(alloc, names, normal)
+}
+
+/// The answer for a program.
+fn check_program(
     alloc: Global,
     file: &Text,
+    text: &Text,
+    toks: &Toks,
     names: &mut Names,
     program: Program,
 ) -> Result<Answer, Memory>
-    ensures { IfOk result (λ answer. answer ≡ normal_answer file.now (with_main names.old) (normal_among (with_main names.old) (program_tree program))) }
+    requires small { length text.now ≤ 16777216 }
+    requires tokens { HasTokens Woven 0 text.now (tokens_of toks.now.items) toks.now.end }
+    requires program { IsProgramIn (tokens_of toks.now.items) toks.now.end (program_tree program) }
+    requires names { names.old ≡ names_in (tokens_of toks.now.items) }
+    ensures { IfOk result (λ answer. IsRunOf file.now text.now answer) }
 {
-    let normal = normal(alloc, &program, names)?;
-    answer_normal(alloc, file, names, normal)
+    match violation_of(alloc, names, program)? {
+        None => run(alloc, file, text, toks),
+        Some(refusal) => Answer::refused(alloc, file, refusal),
+    }
 }
 
 /// The answer for the tokens of a file.
@@ -75,7 +110,7 @@ fn parse(alloc: Global, file: &Text, text: &Text, toks: &Toks) -> Result<Answer,
 {
     let mut names = Names::new(alloc);
     match parse_program(alloc, &mut names, toks, Mode::Woven) {
-        Ok(program) => answer_program(alloc, file, &mut names, program),
+        Ok(program) => check_program(alloc, file, text, toks, &mut names, program),
         Err(Fault::Refused(refusal)) => Answer::refused(alloc, file, refusal),
         Err(Fault::Memory) => Err(Memory),
     }

@@ -5,9 +5,6 @@
 
 mod answer;
 mod exec;
-mod line;
-mod run;
-mod summary;
 #[cfg(test)]
 mod tests;
 mod top;

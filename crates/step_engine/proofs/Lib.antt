@@ -1,6 +1,4 @@
 mod Bindings
 mod ExitValues
-mod Offs
 mod Starts
-mod Overs
 mod Makes

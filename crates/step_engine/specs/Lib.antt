@@ -1,4 +1,2 @@
 pub mod Effects
-pub mod Turns
 pub mod Starts
-pub mod TurnRuns

@@ -1,0 +1,4 @@
+pub mod Exact
+pub mod Onward
+pub mod Forms
+pub mod Sums

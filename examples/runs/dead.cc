@@ -1,8 +1,0 @@
-struct Port {
-    uint8_t level;
-};
-int main() {
-    Port* port = new Port;
-    delete port;
-    return port->level;
-}

@@ -1,6 +1,0 @@
-bool done;
-int main() {
-    std::cout << "waiting\n";
-    while (!done) { }
-    return 0;
-}

@@ -1,7 +1,0 @@
-class Device { };
-class Valve : public Device { };
-int main() {
-    Device* device = new Valve;
-    delete device;
-    return 0;
-}
