@@ -1,4 +1,6 @@
 mod Bindings
 mod ExitValues
+mod Offs
 mod Starts
+mod Overs
 mod Makes

@@ -1,2 +1,4 @@
 pub mod Effects
+pub mod Turns
 pub mod Starts
+pub mod TurnRuns

@@ -8,15 +8,20 @@ ghost use Rattle.step_machine.specs.Act as spec;
 ghost use Rattle.step_machine.specs.Data as datums;
 ghost use Rattle.step_machine.specs.Effects.{did};
 ghost use Rattle.step_machine.specs.Frame.{depth_of};
+ghost use Rattle.step_machine.specs.Item as it;
 ghost use Rattle.step_machine.specs.Machine.{reads_of};
 ghost use Rattle.step_machine.specs.Turn.{thread_at};
-ghost use Rattle.step_frame.specs.Works.{number_of};
+ghost use Rattle.step_frame.specs.Works.{item_of, number_of};
 ghost use Rattle.step_engine.specs.Effects.{effect_of};
+ghost use Rattle.step_engine.specs.Turns.{acted};
 
+use crate::calls::{call, end, leave};
 use crate::effect::{Effect, local};
-use crate::members::read;
-use crate::threads::{join, lock, unlock};
-use agxx_base::{Memory, NumKind, ObjectId};
+use crate::enter::{enter_on, run};
+use crate::members::{print, put, read, show};
+use crate::objects::{build, delete, make, new, unmake};
+use crate::threads::{join, lock, spawn, unlock};
+use agxx_base::{ClassId, Memory, NumKind, ObjectId, Place};
 use cxx_arith::{Value, convert, number};
 use cxx_core::{Expr, Stmt};
 use std::alloc::Global;
@@ -155,4 +160,93 @@ fn exit_value(datum: Datum) -> i32
     ensures { result ≡ numbers.number (numbers.convert_of NumKind.I32 (datums.as_number datum)) }
 {
     number(convert(NumKind::I32, as_number(datum))) as i32
+}
+
+/// `delete`, with as many frames below as the thread has.
+fn act_delete<'p, H: Heap>(
+    alloc: Global,
+    setting: &Setting<'p>,
+    world: &World<H>,
+    threads: &[Thread<'p>],
+    thread: u32,
+    at: Place,
+    class: ClassId,
+    frame: &mut Frame<'p>,
+) -> Result<Effect<'p>, Memory>
+    ensures { IfOk result (λ effect. (frame.new, effect_of effect) ≡ acted setting.now world.now threads.now thread (it.delete at class) frame.old) }
+{
+    let depth = depth_at(threads, thread);
+    delete(alloc, setting, world, threads, depth, at, class, frame)
+}
+
+/// What an item does that was taken off a frame.
+#[tactic(auto, unfolding(crate::specs::Turns::acted))]
+pub(crate) fn act<'p, H: Heap>(
+    alloc: Global,
+    setting: &Setting<'p>,
+    world: &World<H>,
+    threads: &[Thread<'p>],
+    thread: u32,
+    work: Work<'p>,
+    frame: &mut Frame<'p>,
+) -> Result<Effect<'p>, Memory>
+    ensures { IfOk result (λ effect. (frame.new, effect_of effect) ≡ acted setting.now world.now threads.now thread (item_of work.entry) frame.old) }
+{
+    let depth = depth_at(threads, thread);
+    match work {
+        Work::Make(at, object, class, arguments) => {
+            make(
+                alloc, setting, world, depth, at, object, class, arguments, frame,
+            )
+        }
+        Work::Build(at, object, class) => {
+            build(alloc, setting, world, depth, at, object, class, frame)
+        }
+        Work::Unmake(at, object, class) => {
+            unmake(
+                alloc, setting, world, threads, depth, at, object, class, frame,
+            )
+        }
+        Work::Run => run(alloc, setting, depth, frame),
+        Work::Finish => Ok(Effect::End(exit_value(frame.values.top()))),
+        Work::Stmt(statement) => stmt(setting, world, threads, thread, statement, frame),
+        Work::While(condition, body) => {
+            Ok(local(frame.evaluate(condition, Work::Loop(condition, body))?))
+        }
+        Work::Expr(value) => expr(setting, world, threads, thread, value, frame),
+        Work::Read(left) => read(setting, world, left, frame),
+        Work::OpOne(at, op) => Ok(local(frame.op_one(at, op)?)),
+        Work::OpTwo(at, op) => Ok(local(frame.op_two(at, op)?)),
+        Work::OpLeft(at, op) => Ok(local(frame.op_left(at, op)?)),
+        Work::Cast(kind) => Ok(local(frame.cast(kind)?)),
+        Work::Short(is_and, right) => Ok(local(frame.short(is_and, right)?)),
+        Work::Truth => Ok(local(frame.truth()?)),
+        Work::Drop => Ok(local(frame.drop_value())),
+        Work::Bind(name, value_type) => Ok(local(frame.bind(name, value_type)?)),
+        Work::Put(left) => put(setting, world, left, frame),
+        Work::Keep(value_type) => Ok(local(frame.keep(value_type))),
+        Work::Print(at) => Ok(print(world, at, frame)),
+        Work::Show(at, text) => Ok(show(world, at, text, frame)),
+        Work::Branch(yes, otherwise) => Ok(local(frame.branch(yes, otherwise)?)),
+        Work::Loop(condition, body) => Ok(local(frame.loop_while(condition, body)?)),
+        Work::ForTest(condition, step, body) => {
+            Ok(local(frame.evaluate(condition, Work::ForLoop(condition, step, body))?))
+        }
+        Work::ForLoop(condition, step, body) => Ok(local(frame.loop_for(condition, step, body)?)),
+        Work::Call(callee) => call(alloc, setting, world, depth, &callee, frame),
+        Work::New(at, class) => new(alloc, setting, depth, at, class, world.made(), frame),
+        #[tactic(auto)]
+        Work::Delete(at, class) => {
+            act_delete(alloc, setting, world, threads, thread, at, class, frame)
+        }
+        Work::Spawn(at, name, function) => {
+            spawn(alloc, setting, threads.len(), at, name, function, frame)
+        }
+        Work::Up(at, base) => { enter_on(alloc, setting, depth, at, frame.this, Some(base), frame) }
+        Work::Down(at, base) => {
+            enter_on(alloc, setting, depth, at, frame.this, Some(base), frame)
+        }
+        Work::Leave(at) => Ok(leave(at, frame)),
+        Work::End(at, ending) => Ok(end(at, ending, threads, frame)),
+    }
 }

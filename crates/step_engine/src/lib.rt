@@ -1,12 +1,19 @@
-//! The items of the engine that look beyond their frame, over objects behind the trait `Heap`, and what a run finds at
-//! its start. What they do is defined in `step_machine`.
+//! The engine: it runs programs step by step, over objects behind the trait `Heap`. What a step does is defined in
+//! `step_machine`.
 #![tactic(auto)]
 
 mod act;
 mod calls;
 mod effect;
+mod engine;
 mod enter;
+mod inserted;
 mod members;
 mod objects;
+mod runs;
 mod start;
 mod threads;
+mod turns;
+
+pub use engine::Engine;
+pub use runs::{Counts, Turns};
