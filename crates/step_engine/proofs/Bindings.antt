@@ -1,9 +1,7 @@
 -- What values are left once the parameters are bound.
-use Rattle.std.proofs.Common.{◌≡◌, ℕ, suc, List, [], ◌∷◌, map, length, refl, ap, sym, ◌∙◌}
-use Rattle.cxx_core.specs.CoreProgram.{CoreParam}
+use Rattle.std.proofs.Common.{◌≡◌, List, [], ◌∷◌, map, length, refl, ap}
 use Rattle.cxx_core.specs.declared.program.Param.{Param}
 use Rattle.cxx_core.specs.ProgramView.{param_core}
-use Rattle.step_machine.specs.declared.datum.Datum.{Datum}
 use Rattle.step_machine.specs.Data.{rest}
 use Rattle.step_machine.specs.Frame.{Binding, bind_all}
 use Rattle.step_frame.specs.Under.{under}

@@ -4,3 +4,4 @@ mod Offs
 mod Starts
 mod Overs
 mod Makes
+mod Widths

@@ -1,5 +1,5 @@
 -- A thread that has nothing to do.
-use Rattle.std.proofs.Common.{◌≡◌, ℕ, List, [], ◌∷◌, Bool, true, false, Option, Some, None, slice_get, slice_set, refl, ap, sym, ◌∙◌, get_or, subst, MatchOption, Result, Ok, Err, IfOk}
+use Rattle.std.proofs.Common.{◌≡◌, ℕ, List, [], ◌∷◌, Bool, false, Option, Some, None, slice_get, slice_set, refl, ap, sym, ◌∙◌, subst, MatchOption, Result, Ok, Err, IfOk}
 use Rattle.std.proofs.lemmas.Option.{get_or_from_slice_get}
 use Rattle.std.proofs.lemmas.List.{set-get_or}
 use Rattle.step_machine.specs.Frame.{Frame}
@@ -15,7 +15,7 @@ use Rattle.step_machine.specs.Effects.{Did}
 use Rattle.step_engine.specs.declared.effect.Turn.{Turn}
 use Rattle.step_engine.specs.Effects.{turn_of}
 use Rattle.step_machine.specs.Inserted.{is_inserted}
-use Rattle.step_machine.specs.Machine.{Off, Turned, taken_off, off_at, off_frames, off_items, put_at, turn_off}
+use Rattle.step_machine.specs.Machine.{Turned, taken_off, off_at, off_frames, off_items, put_at, turn_off}
 
 off-items : (t : ℕ) (ths : Threads) (f : Frame) (fs : List Frame) (is : List Item) → are_some is ≡ false → off_items t ths f fs is ≡ None
 off-items t ths f fs [] p = refl

@@ -1,5 +1,5 @@
 -- Once a run is over, more turns change nothing.
-use Rattle.std.proofs.Common.{◌≡◌, ℕ, zero, suc, ◌+◌, ◌-◌, ◌≤◌, Bool, true, false, refl, ap, sym, ◌∙◌, subst, arith}
+use Rattle.std.proofs.Common.{◌≡◌, ℕ, zero, suc, ◌+◌, ◌-◌, ◌≤◌, false, refl, sym, ◌∙◌, arith}
 use Rattle.step_machine.specs.Runs.{Ran}
 use Rattle.step_engine.specs.TurnRuns.{is_running, taken, after_turns}
 

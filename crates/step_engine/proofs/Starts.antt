@@ -1,12 +1,12 @@
 -- A world that gets the globals one by one is that of the start.
-use Rattle.std.proofs.Common.{◌≡◌, ℕ, List, [], ◌∷◌, ◌++◌, Some, refl, ap, sym, ◌∙◌}
+use Rattle.std.proofs.Common.{◌≡◌, List, [], ◌∷◌, ◌++◌, Some, ap, sym, ◌∙◌}
 use Rattle.std.proofs.lemmas.List.{append_assoc, append-nil}
 use Rattle.cxx_core.specs.CoreProgram as cp
 use Rattle.cxx_core.specs.CoreProgram.{CoreGlobal}
 use Rattle.step_machine.specs.Setting.{Setting, word_count}
-use Rattle.step_machine.specs.World.{World, Object, new_object}
+use Rattle.step_machine.specs.World.{World, new_object}
 use Rattle.step_machine.specs.Start.{objects_of, variables_from, start_world}
-use Rattle.step_world.specs.Worlds.{empty_world, created}
+use Rattle.step_world.specs.Worlds.{empty_world}
 use Rattle.step_engine.specs.Starts.{with_global, with_globals}
 
 abbrev both : Setting → World → List CoreGlobal → World

@@ -20,10 +20,10 @@ use step_world::{Heap, World};
 #[derive(Drop)]
 pub struct Engine<'p, H: Heap> {
     alloc: Global,
-    setting: &'p Setting<'p>,
+    pub(crate) setting: &'p Setting<'p>,
     threads: Vec<Thread<'p>>,
-    world: World<H>,
-    state: State,
+    pub(crate) world: World<H>,
+    pub(crate) state: State,
 }
 
 impl<'p, H: Heap> Model for Engine<'p, H> {

@@ -7,6 +7,7 @@ mod calls;
 mod effect;
 mod engine;
 mod enter;
+mod flips;
 mod inserted;
 mod members;
 mod objects;

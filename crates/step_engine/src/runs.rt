@@ -30,16 +30,9 @@ pub trait Turns {
         ensures { result ≡ thread self.now index };
 }
 
-/// Whether a run goes on.
-pub(crate) fn is_running(state: State) -> bool
-    ensures { result ≡ is_running state }
-{
-    matches!(state, State::Running)
-}
-
 impl Counts {
     /// No turns.
-    fn new() -> Counts
+    pub fn new() -> Counts
         ensures { counts_of result ≡ nothing_counted }
     {
         Counts {
@@ -51,7 +44,7 @@ impl Counts {
     }
 
     /// One more turn.
-    fn add(&mut self, kind: StepKind)
+    pub fn add(&mut self, kind: StepKind)
         requires { turns_in self.old + 1 < 2 ^ 64 }
         ensures { counts_of self.new ≡ counted kind (counts_of self.old) }
     {
@@ -65,6 +58,13 @@ impl Counts {
 }
 
 impl<'p, H: Heap> Engine<'p, H> {
+    /// Whether the run goes on.
+    pub fn is_running(&self) -> bool
+        ensures { result ≡ is_running self.now.state }
+    {
+        matches!(self.state(), State::Running)
+    }
+
     /// Takes turns while the run goes on, so many at most, and counts them. After `Memory` the run is lost.
     #[tactic(auto, using(crate::proofs::Overs::over_at))]
     pub fn run<T: Turns>(&mut self, turns: &T, limit: u64) -> Result<Counts, Memory>
@@ -73,7 +73,7 @@ impl<'p, H: Heap> Engine<'p, H> {
     {
         let mut counts = Counts::new();
         for index in 0..limit {
-            if !is_running(self.state()) {
+            if !self.is_running() {
                 return Ok(counts);
             }
             let kind = self.step(turns.turn(index))?;
