@@ -1,0 +1,3 @@
+pub mod SumPrograms
+pub mod Laws
+pub mod Example
