@@ -1,0 +1,4 @@
+mod Lefts
+mod Overs
+mod Moments
+pub mod Outputs
