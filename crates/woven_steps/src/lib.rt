@@ -3,8 +3,12 @@
 
 mod object;
 mod word_heap;
+mod woven_run;
 
 pub use word_heap::WordHeap;
+pub use woven_run::WovenRun;
 
+#[cfg(test)]
+mod run_tests;
 #[cfg(test)]
 mod tests;

@@ -1,0 +1,84 @@
+//! Runs of programs without weaving.
+
+ghost use Rattle.std.specs.Prelude.{◌≡◌, IfOk, OnOk, OnErr};
+ghost use Rattle.plan_runs.specs.Outputs.{WritesOutput};
+ghost use Rattle.plan_runs.specs.Reports.{report_of};
+ghost use Rattle.plan_runs.specs.Runs.{unflipped};
+ghost use Rattle.step_machine.specs.Machine.{next};
+ghost use Rattle.step_machine.specs.Start.{start};
+
+use crate::MapHeap;
+use agxx_base::{Memory, Sink};
+use flip_plan::Plan;
+use plan_runs::{Report, RunError, run_unflipped, write_output};
+use std::alloc::Global;
+use std::marker::Model;
+use step_engine::Engine;
+use step_machine::{State, StepKind};
+use step_setting::Setting;
+
+/// A run of a program without weaving, whose objects find their words by number.
+#[derive(Drop)]
+pub struct SourceRun<'p> {
+    engine: Engine<'p, MapHeap>,
+}
+
+impl<'p> Model for SourceRun<'p> {
+    ghost use Rattle.cxx_core.specs.Codes.{core_codes};
+    ghost use Rattle.std.specs.Coded.{codes};
+    ghost use Rattle.step_machine.specs.Machine.{Machine};
+
+    ghost Value = { Machine };
+
+    ghost coded = { Prim.hlevel (codes, core_codes) };
+
+    ghost view = { λ run. run.engine };
+}
+
+impl<'p> SourceRun<'p> {
+    /// A run before its first turn.
+    pub fn start(alloc: Global, setting: &'p Setting<'p>) -> Result<SourceRun<'p>, Memory>
+        ensures { IfOk result (λ run. run ≡ start setting.now) }
+    {
+        let engine = Engine::start(alloc, setting, MapHeap::new(alloc))?;
+        Ok(SourceRun { engine })
+    }
+
+    /// One turn of a thread. After `Memory` the run is lost: each later turn is idle.
+    pub fn step(&mut self, thread: u32) -> Result<StepKind, Memory>
+        ensures ok { IfOk result (λ kind. (self.new, kind) ≡ next self.old thread) }
+        ensures err { OnErr result (self.new.state ≡ State.Lost) }
+    {
+        self.engine.step(thread)
+    }
+
+    /// What has become of the run.
+    pub fn state(&self) -> State
+        ensures { result ≡ self.now.state }
+    {
+        self.engine.state()
+    }
+
+    /// All that was printed.
+    pub fn output(&self) -> &[u8]
+        ensures { result.now ≡ self.now.world.output }
+    {
+        self.engine.output()
+    }
+
+    /// Runs a plan without its flips from the start on and writes the output. After an error the run is not to be used
+    /// any more.
+    #[tactic(auto, using(plan_runs::proofs::Outputs::writes_nothing))]
+    pub fn run<O: Sink>(&mut self, plan: &Plan, sink: &mut O) -> Result<Report, RunError>
+        // No turn was taken.
+        requires begun { self.old ≡ start self.old.setting }
+        ensures machine { OnOk result (self.new ≡ (unflipped plan.now self.old).0) }
+        ensures report { IfOk result (λ report. report ≡ report_of (unflipped plan.now self.old) 0) }
+        ensures output { WritesOutput (O.taken sink.old) (O.taken sink.new) (unflipped plan.now self.old).0.world.output (O.faults sink.old) (O.faults sink.new) result }
+    {
+        let Ok(report) = run_unflipped(&mut self.engine, plan) else {
+            return Err(RunError::Memory);
+        };
+        write_output(report, self.engine.output(), sink)
+    }
+}
