@@ -1,5 +1,5 @@
 """Runs each command of a `console` block of the documents and of an example block of the man page, with the program that
-the gate built, and compares standard output, then standard error, then the status, with what is shown."""
+the gate built or `AGXX` names, and compares standard output, then standard error, then the status, with what is shown."""
 
 import pathlib
 import re
@@ -7,7 +7,7 @@ import shlex
 import subprocess
 import sys
 
-PROGRAM = pathlib.Path("crates/agxx_main/out/agxx_main").resolve()
+from program import PROGRAM
 
 
 def answer(words):

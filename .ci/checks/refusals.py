@@ -9,6 +9,8 @@ import tempfile
 PROGRAM = "crates/agxx_main/out/agxx_main"
 CASES = pathlib.Path("cases/refusals.txt")
 MAIN = "int main() { return 0; }"
+# The statuses of a program that is run: it ends, stops, goes on or is halted.
+RUNS = (0, 3, 4, 5)
 
 # A first line, what stands before and behind the number of each further line, how many of these there are, a last line, and
 # what is said.
@@ -72,9 +74,10 @@ def said_of(text):
         path = pathlib.Path(folder) / "a.cc"
         path.write_bytes(text.encode("latin-1"))
         run = subprocess.run([PROGRAM, "exec", str(path)], capture_output=True, text=True)
+    if run.returncode in RUNS:
+        return "accepted"
     place, rule = run.stderr.split(": ")[:2]
-    said = f"{place.removeprefix(str(path) + ':')} {rule}"
-    return "accepted" if said == "1:1 U1" else said
+    return f"{place.removeprefix(str(path) + ':')} {rule}"
 
 
 def main():
