@@ -1,81 +1,63 @@
--- The answer that is due, by what was read.
-use Rattle.std.proofs.Common.{◌≡◌, ℕ, ◌+◌, ◌<◌, true, List, [], ◌∷◌, length, Option, Some, None, Result, Ok, Err, ◌⊎◌, inl, inr, refl, sym, ap, ◌∙◌, subst, append-nil, arith}
-use Rattle.std.specs.Prelude.{nat_eq, IfOk, IfSome, IsSomeAnd, OnErr, replicate, take}
-use Rattle.std.specs.Str.{bytes_eq}
-use Rattle.std.proofs.lemmas.Bool.Decides.{nat_tests}
-use Rattle.std.proofs.lemmas.List.{length-replicate}
-use Rattle.agxx_base.specs.Causes.{Rose}
+-- The answer that is due: that there is one, and that the answer for words and files is one.
+use Rattle.std.proofs.Common.{◌≡◌, ℕ, List, [], ◌∷◌, Option, Some, None, Result, Ok, Err, refl, sym, ◌∙◌, subst, append-nil, ap, arith}
+use Rattle.std.specs.Prelude.{IfOk, OnErr, take}
 use Rattle.agxx_base.specs.Files.{Listing, file_named}
 use Rattle.agxx_base.specs.Sink.{appended}
 use Rattle.agxx_base.specs.declared.fault.Memory.{Memory}
-use Rattle.agxx_base.specs.declared.rule.Rule.TheVariants.{S1}
+use Rattle.agxx_base.specs.declared.kind.Mode.TheVariants as mode
 use Rattle.agxx_base.specs.declared.status.Status.{Status}
-use Rattle.agxx_base.specs.declared.status.Status.TheVariants as status_of
-use Rattle.cxx_lex.specs.Laws.{IsAlwaysOne}
-use Rattle.agxx_main.specs.declared.answer.Answer.{Answer}
-use Rattle.agxx_main.specs.Commands.{MeansExec, IsUsage}
-use Rattle.agxx_main.specs.Answers.{usage, refused, unreadable, at_beginning, IsRunOf, too_large, IsExecOf, no_command, exec}
-use Rattle.agxx_main.specs.Outcome.{IsDue, told, untold, unread, IsExecDue, told_file, untold_file, unread_file, GetsPrefix, Gets, no_memory, GivesUp, Ends}
-use Rattle.agxx_main.specs.Laws.{IsAlike, same, HasOneAnswer, UsageHasAnswer, ExecHasAnswer}
 use Rattle.cxx_lex.proofs.Readings.{always_one}
-use Rattle.agxx_main.proofs.Runs.{has-run, never-unread, one-run}
+use Rattle.flip_plan.specs.Plans.{default_plan}
+use Rattle.agxx_main.specs.declared.answer.Answer.{Answer}
+use Rattle.agxx_main.specs.Commands.{MeansExec, MeansExecPlan, MeansSource}
+use Rattle.agxx_main.specs.RunAnswers.{woven_answer, source_answer}
+use Rattle.agxx_main.specs.Answers.{usage, largest_woven, largest_source, Plans, Opens, IsTextAnswer, IsExecAnswer, IsExecPlanAnswer, IsSourceAnswer, no_command, exec, exec_plan, source}
+use Rattle.agxx_main.specs.Outcome.{IsExecDue, IsExecPlanDue, IsSourceDue, IsDue, GetsPrefix, Gets, no_memory, GivesUp, Ends}
+use Rattle.agxx_main.specs.Laws.{IsAlike, same, HasOneAnswer, UsageHasAnswer, CommandHasAnswer}
+use Rattle.agxx_main.proofs.Texts.{has-text, one-text}
+use Rattle.agxx_main.proofs.Opens.{some-opens, some-plans, one-opens, one-plans, some-given}
 
--- ---- by what reading a file answered
+-- ---- there is an answer
 
-pub read-due : (file text : List ℕ) (listed : Option Listing) (before now : ℕ) (answer : Answer) → IfSome listed (λ files. file_named file files ≡ Some text) → IsRunOf file text answer → IsExecDue file listed before now answer
-read-due file text None before now answer w r = untold_file text refl r
-read-due file text (Some files) before now answer w r = told_file files refl (subst (λ o. IsExecOf file o answer) (sym w) r)
+some-exec : (file : List ℕ) (content : Option (List ℕ)) → (a : Answer) × IsExecAnswer file content a
+some-exec file content =
+    some-opens file largest_woven (λ text. IsTextAnswer mode.Woven (woven_answer default_plan) file text) (λ text. has-text always_one mode.Woven (woven_answer default_plan) file text) content
 
--- there are bytes of every number
-longer : (n : ℕ) → (bytes : List ℕ) × (n < length bytes)
-longer n = (replicate (n + 1) 0, omega (arith, length-replicate {A = ℕ} (n + 1) 0))
+some-exec-plan : (file plan : List ℕ) (content lines : Option (List ℕ)) → (a : Answer) × IsExecPlanAnswer file plan content lines a
+some-exec-plan file plan content lines =
+    some-opens file largest_woven (λ text. Opens plan largest_woven lines (λ steps. Plans plan steps (λ p. IsTextAnswer mode.Woven (woven_answer p) file text)))
+    (λ text. some-opens plan largest_woven (λ steps. Plans plan steps (λ p. IsTextAnswer mode.Woven (woven_answer p) file text))
+    (λ steps. some-plans plan steps (λ p. IsTextAnswer mode.Woven (woven_answer p) file text) (λ p. has-text always_one mode.Woven (woven_answer p) file text)) lines) content
 
-pub large-due : (file : List ℕ) (listed : Option Listing) (before now : ℕ) (answer : Answer) → IfSome listed (λ files. IsSomeAnd (file_named file files) (λ bytes. 16777216 < length bytes))
-    → answer ≡ refused file (at_beginning S1) → IsExecDue file listed before now answer
-large-due file None before now answer w e =
-    let long = longer 16777216 in untold_file long.0 refl (too_large long.1 e)
-large-due file (Some files) before now answer w e = told_file files refl (go (file_named file files) w)
-  where
-    go : (o : Option (List ℕ)) → IsSomeAnd o (λ bytes. 16777216 < length bytes) → IsExecOf file o answer
-    go None h = absurd h
-    go (Some bytes) h = too_large h e
+some-source : (plan file : List ℕ) (lines content : Option (List ℕ)) → (a : Answer) × IsSourceAnswer plan file lines content a
+some-source plan file lines content =
+    some-opens plan largest_woven (λ steps. Opens file largest_source content (λ text. Plans plan steps (λ p. IsTextAnswer mode.Source (source_answer p) file text)))
+    (λ steps. some-opens file largest_source (λ text. Plans plan steps (λ p. IsTextAnswer mode.Source (source_answer p) file text))
+    (λ text. some-plans plan steps (λ p. IsTextAnswer mode.Source (source_answer p) file text) (λ p. has-text always_one mode.Source (source_answer p) file text)) content) lines
 
-pub fault-due : (file : List ℕ) (listed : Option Listing) (before now : ℕ) (answer : Answer) → Rose before now ⊎ IsSomeAnd listed (λ files. file_named file files ≡ None) → answer ≡ unreadable file → IsExecDue file listed before now answer
-fault-due file listed before now answer (inl rose) e = unread_file rose e
-fault-due file None before now answer (inr w) e = absurd w
-fault-due file (Some files) before now answer (inr w) e = told_file files refl (subst (λ o. IsExecOf file o answer) (sym w) e)
+-- ---- one that is due
 
--- ---- from the file of `exec` to the words
+pub some-exec-due : (listed : Option Listing) (before now : ℕ) (file : List ℕ) → (a : Answer) × IsExecDue listed before now file a
+some-exec-due listed before now file =
+    let c = some-given listed before now file in
+    let a = some-exec file c.0 in
+    (a.0, record { content = c.0; given = c.1; is = a.1 })
 
-same-number : (b : ℕ) → nat_eq b b ≡ true
-same-number b = grind (arith, nat_tests)
+pub some-exec-plan-due : (listed : Option Listing) (before now : ℕ) (file plan : List ℕ) → (a : Answer) × IsExecPlanDue listed before now file plan a
+some-exec-plan-due listed before now file plan =
+    let c = some-given listed before now file in
+    let l = some-given listed before now plan in
+    let a = some-exec-plan file plan c.0 l.0 in
+    (a.0, record { content = c.0; lines = l.0; content_given = c.1; lines_given = l.1; is = a.1 })
 
-same-bytes : (bytes : List ℕ) → bytes_eq bytes bytes ≡ true
-same-bytes [] = refl
-same-bytes (b ∷ bs) = rw (same-number b) (same-bytes bs)
+pub some-source-due : (listed : Option Listing) (before now : ℕ) (plan file : List ℕ) → (a : Answer) × IsSourceDue listed before now plan file a
+some-source-due listed before now plan file =
+    let l = some-given listed before now plan in
+    let c = some-given listed before now file in
+    let a = some-source plan file l.0 c.0 in
+    (a.0, record { lines = l.0; content = c.0; lines_given = l.1; content_given = c.1; is = a.1 })
 
-found : (file text : List ℕ) → file_named file ((file, text) ∷ []) ≡ Some text
-found file text = rw (same-bytes file) refl
-
-pub exec-due : (words : List (List ℕ)) (file : List ℕ) (listed : Option Listing) (before now : ℕ) (answer : Answer) → MeansExec words file → IsExecDue file listed before now answer → IsDue words listed before now answer
-exec-due words file listed before now answer m (told_file files l x) = told files l (exec file m x)
-exec-due words file listed before now answer m (untold_file text l r) =
-    untold ((file, text) ∷ []) l (never-unread file text answer r) (exec file m (subst (λ o. IsExecOf file o answer) (sym (found file text)) r))
-exec-due words file listed before now answer m (unread_file rose e) = unread file rose m e
-
-pub usage-due : (words : List (List ℕ)) (listed : Option Listing) (before now : ℕ) (answer : Answer) → IsUsage words → answer ≡ usage → IsDue words listed before now answer
-usage-due words None before now answer u e = untold [] refl (λ h. let s : answer.status ≡ status_of.Usage = ap (λ a. a.status) e in cc) (no_command u e)
-usage-due words (Some files) before now answer u e = told files refl (no_command u e)
-
--- ---- without memory
-
-some-exec : IsAlwaysOne → (file : List ℕ) (o : Option (List ℕ)) → (answer : Answer) × IsExecOf file o answer
-some-exec always file None = (unreadable file, refl)
-some-exec always file (Some text) = has-run always file text
-
-some-due : IsAlwaysOne → (file : List ℕ) (listed : Option Listing) (before now : ℕ) → (answer : Answer) × IsExecDue file listed before now answer
-some-due always file None before now = let r = has-run always file [] in (r.0, untold_file [] refl r.1)
-some-due always file (Some files) before now = let x = some-exec always file (file_named file files) in (x.0, told_file files refl x.1)
+-- ---- the end of a call
 
 no-bytes : (taken : Option (List ℕ)) (after : Option (List ℕ)) (bytes : List ℕ) → after ≡ taken → GetsPrefix taken after bytes
 no-bytes taken after bytes e = (0, omega arith, e ∙ nothing taken)
@@ -84,45 +66,107 @@ no-bytes taken after bytes e = (0, omega arith, e ∙ nothing taken)
     nothing None = refl
     nothing (Some had) = ap Some (sym (append-nil had))
 
-pub gives-up : (answer : Answer) (out out' diag diag' : Option (List ℕ)) (out_failed diag_failed : Type 0) (result : Status) → GivesUp out out' diag diag' result → Gets answer out out' diag diag' out_failed diag_failed result
+gives-up : (answer : Answer) (out out' diag diag' : Option (List ℕ)) (out_failed diag_failed : Type 0) (result : Status) → GivesUp out out' diag diag' result → Gets answer out out' diag diag' out_failed diag_failed result
 gives-up answer out out' diag diag' out_failed diag_failed result g = no_memory g.status (no-bytes out out' answer.out g.out_stays) (no-bytes diag diag' answer.diag g.diag_stays)
 
--- ---- the end of a call
-
-pub usage-ends : (words : List (List ℕ)) (listed : Option Listing) (count : ℕ) (out out' diag diag' : Option (List ℕ)) (out_failed diag_failed : Type 0) (r : Result Answer Memory) (result : Status)
-    → IsUsage words → IfOk r (λ a. a ≡ usage) → IfOk r (λ a. Gets a out out' diag diag' out_failed diag_failed result) → OnErr r (GivesUp out out' diag diag' result) → Ends words listed count count out out' diag diag' out_failed diag_failed result
-usage-ends words listed count out out' diag diag' out_failed diag_failed (Ok a) result u e g m = record { answer = a; due = usage-due words listed count count a u e; given = g }
-usage-ends words listed count out out' diag diag' out_failed diag_failed (Err x) result u e g m = record { answer = usage; due = usage-due words listed count count usage u refl; given = gives-up usage out out' diag diag' out_failed diag_failed result m }
-
-pub exec-ends : IsAlwaysOne → (words : List (List ℕ)) (file : List ℕ) (listed : Option Listing) (before now : ℕ) (out out' diag diag' : Option (List ℕ)) (out_failed diag_failed : Type 0) (r : Result Answer Memory) (result : Status)
-    → MeansExec words file → IfOk r (IsExecDue file listed before now) → IfOk r (λ a. Gets a out out' diag diag' out_failed diag_failed result) → OnErr r (GivesUp out out' diag diag' result) → Ends words listed before now out out' diag diag' out_failed diag_failed result
-exec-ends always words file listed before now out out' diag diag' out_failed diag_failed (Ok a) result x d g m = record { answer = a; due = exec-due words file listed before now a x d; given = g }
-exec-ends always words file listed before now out out' diag diag' out_failed diag_failed (Err z) result x d g m =
-    let s = some-due always file listed before now in
-    record { answer = s.0; due = exec-due words file listed before now s.0 x s.1; given = gives-up s.0 out out' diag diag' out_failed diag_failed result m }
+-- by an answer that was found, or some answer where memory was refused
+pub ends-by : (Due : Answer → Type 0) (words : List (List ℕ)) (listed : Option Listing) (before now : ℕ) (out out' diag diag' : Option (List ℕ)) (out_failed diag_failed : Type 0) (r : Result Answer Memory) (result : Status)
+    → ((a : Answer) → Due a → IsDue words listed before now a) → (a : Answer) × Due a → IfOk r Due → IfOk r (λ a. Gets a out out' diag diag' out_failed diag_failed result) → OnErr r (GivesUp out out' diag diag' result)
+    → Ends words listed before now out out' diag diag' out_failed diag_failed result
+ends-by Due words listed before now out out' diag diag' out_failed diag_failed (Ok a) result is some d g m = record { answer = a; due = is a d; given = g }
+ends-by Due words listed before now out out' diag diag' out_failed diag_failed (Err x) result is some d g m =
+    record { answer = some.0; due = is some.0 some.1; given = gives-up some.0 out out' diag diag' out_failed diag_failed result m }
 
 -- ---- words and files have one answer
 
-one-file : (words : List (List ℕ)) (file other : List ℕ) → MeansExec words file → MeansExec words other → file ≡ other
-one-file (command ∷ word ∷ []) file other m n = m.2 ∙ sym n.2
-one-file [] file other m n = absurd m
-one-file (command ∷ []) file other m n = absurd m
-one-file (command ∷ word ∷ third ∷ rest) file other m n = absurd m
+one-exec-file : (words : List (List ℕ)) (file other : List ℕ) → MeansExec words file → MeansExec words other → file ≡ other
+one-exec-file (command ∷ word ∷ []) file other m n = m.2 ∙ sym n.2
+one-exec-file [] file other m n = absurd m
+one-exec-file (command ∷ []) file other m n = absurd m
+one-exec-file (command ∷ word ∷ third ∷ rest) file other m n = absurd m
 
-one-exec : (file : List ℕ) (o : Option (List ℕ)) (a b : Answer) → IsExecOf file o a → IsExecOf file o b → IsAlike a b
-one-exec file None a b x y = same (x ∙ sym y)
-one-exec file (Some text) a b x y = one-run file text a b x y
+one-exec-plan-file : (words : List (List ℕ)) (file plan other second : List ℕ) → MeansExecPlan words file plan → MeansExecPlan words other second → (file ≡ other) × (plan ≡ second)
+one-exec-plan-file (command ∷ first ∷ last ∷ []) file plan other second m n = (m.3 ∙ sym n.3, m.4 ∙ sym n.4)
+one-exec-plan-file [] file plan other second m n = absurd m
+one-exec-plan-file (command ∷ []) file plan other second m n = absurd m
+one-exec-plan-file (command ∷ first ∷ []) file plan other second m n = absurd m
+one-exec-plan-file (command ∷ first ∷ last ∷ more ∷ rest) file plan other second m n = absurd m
+
+one-source-file : (words : List (List ℕ)) (plan file other second : List ℕ) → MeansSource words plan file → MeansSource words other second → (plan ≡ other) × (file ≡ second)
+one-source-file (command ∷ first ∷ last ∷ []) plan file other second m n = (m.3 ∙ sym n.3, m.4 ∙ sym n.4)
+one-source-file [] plan file other second m n = absurd m
+one-source-file (command ∷ []) plan file other second m n = absurd m
+one-source-file (command ∷ first ∷ []) plan file other second m n = absurd m
+one-source-file (command ∷ first ∷ last ∷ more ∷ rest) plan file other second m n = absurd m
+
+-- no words are two commands
+exec-or-plan : (words : List (List ℕ)) (file other plan : List ℕ) → MeansExec words file → MeansExecPlan words other plan → ⊥
+exec-or-plan (command ∷ word ∷ []) file other plan m n = n
+exec-or-plan [] file other plan m n = m
+exec-or-plan (command ∷ []) file other plan m n = m
+exec-or-plan (command ∷ word ∷ third ∷ rest) file other plan m n = m
+
+exec-or-source : (words : List (List ℕ)) (file plan other : List ℕ) → MeansExec words file → MeansSource words plan other → ⊥
+exec-or-source (command ∷ word ∷ []) file plan other m n = n
+exec-or-source [] file plan other m n = m
+exec-or-source (command ∷ []) file plan other m n = m
+exec-or-source (command ∷ word ∷ third ∷ rest) file plan other m n = m
+
+plan-or-source : (words : List (List ℕ)) (file plan other second : List ℕ) → MeansExecPlan words file plan → MeansSource words other second → ⊥
+plan-or-source (command ∷ first ∷ last ∷ []) file plan other second m n = let e = sym m.0 ∙ n.0 in cc
+plan-or-source [] file plan other second m n = m
+plan-or-source (command ∷ []) file plan other second m n = m
+plan-or-source (command ∷ first ∷ []) file plan other second m n = m
+plan-or-source (command ∷ first ∷ last ∷ more ∷ rest) file plan other second m n = m
+
+one-exec : (file : List ℕ) (content : Option (List ℕ)) (a b : Answer) → IsExecAnswer file content a → IsExecAnswer file content b → IsAlike a b
+one-exec file content a b =
+    one-opens file largest_woven content (λ text. IsTextAnswer mode.Woven (woven_answer default_plan) file text) a b (λ text a b. one-text mode.Woven (woven_answer default_plan) file text a b)
+
+one-exec-plan : (file plan : List ℕ) (content lines : Option (List ℕ)) (a b : Answer) → IsExecPlanAnswer file plan content lines a → IsExecPlanAnswer file plan content lines b → IsAlike a b
+one-exec-plan file plan content lines a b =
+    one-opens file largest_woven content (λ text. Opens plan largest_woven lines (λ steps. Plans plan steps (λ p. IsTextAnswer mode.Woven (woven_answer p) file text))) a b
+    (λ text a b. one-opens plan largest_woven lines (λ steps. Plans plan steps (λ p. IsTextAnswer mode.Woven (woven_answer p) file text)) a b
+    (λ steps a b. one-plans plan steps (λ p. IsTextAnswer mode.Woven (woven_answer p) file text) a b (λ p a b. one-text mode.Woven (woven_answer p) file text a b)))
+
+one-source : (plan file : List ℕ) (lines content : Option (List ℕ)) (a b : Answer) → IsSourceAnswer plan file lines content a → IsSourceAnswer plan file lines content b → IsAlike a b
+one-source plan file lines content a b =
+    one-opens plan largest_woven lines (λ steps. Opens file largest_source content (λ text. Plans plan steps (λ p. IsTextAnswer mode.Source (source_answer p) file text))) a b
+    (λ steps a b. one-opens file largest_source content (λ text. Plans plan steps (λ p. IsTextAnswer mode.Source (source_answer p) file text)) a b
+    (λ text a b. one-plans plan steps (λ p. IsTextAnswer mode.Source (source_answer p) file text) a b (λ p a b. one-text mode.Source (source_answer p) file text a b)))
 
 pub one-answer : HasOneAnswer
 one-answer words files a b (no_command u e) (no_command v f) = same (e ∙ sym f)
-one-answer words files a b (no_command u e) (exec file m x) = absurd (u file m)
-one-answer words files a b (exec file m x) (no_command u e) = absurd (u file m)
+one-answer words files a b (no_command u e) (exec file m x) = absurd (u.no_exec file m)
+one-answer words files a b (no_command u e) (exec_plan file plan m x) = absurd (u.no_exec_plan file plan m)
+one-answer words files a b (no_command u e) (source plan file m x) = absurd (u.no_source plan file m)
+one-answer words files a b (exec file m x) (no_command u e) = absurd (u.no_exec file m)
 one-answer words files a b (exec file m x) (exec other n y) =
-    let s : other ≡ file = one-file words other file n m in
-    one-exec file (file_named file files) a b x (subst (λ f. IsExecOf f (file_named f files) b) s y)
+    let s : other ≡ file = one-exec-file words other file n m in
+    one-exec file (file_named file files) a b x (subst (λ f. IsExecAnswer f (file_named f files) b) s y)
+one-answer words files a b (exec file m x) (exec_plan other plan n y) = absurd (exec-or-plan words file other plan m n)
+one-answer words files a b (exec file m x) (source plan other n y) = absurd (exec-or-source words file plan other m n)
+one-answer words files a b (exec_plan file plan m x) (no_command u e) = absurd (u.no_exec_plan file plan m)
+one-answer words files a b (exec_plan file plan m x) (exec other n y) = absurd (exec-or-plan words other file plan n m)
+one-answer words files a b (exec_plan file plan m x) (exec_plan other second n y) =
+    let s = one-exec-plan-file words other second file plan n m in
+    let z : IsExecPlanAnswer file second (file_named file files) (file_named second files) b = subst (λ f. IsExecPlanAnswer f second (file_named f files) (file_named second files) b) s.0 y in
+    one-exec-plan file plan (file_named file files) (file_named plan files) a b x (subst (λ p. IsExecPlanAnswer file p (file_named file files) (file_named p files) b) s.1 z)
+one-answer words files a b (exec_plan file plan m x) (source other second n y) = absurd (plan-or-source words file plan other second m n)
+one-answer words files a b (source plan file m x) (no_command u e) = absurd (u.no_source plan file m)
+one-answer words files a b (source plan file m x) (exec other n y) = absurd (exec-or-source words other plan file n m)
+one-answer words files a b (source plan file m x) (exec_plan other second n y) = absurd (plan-or-source words other second plan file n m)
+one-answer words files a b (source plan file m x) (source other second n y) =
+    let s = one-source-file words other second plan file n m in
+    let z : IsSourceAnswer plan second (file_named plan files) (file_named second files) b = subst (λ p. IsSourceAnswer p second (file_named p files) (file_named second files) b) s.0 y in
+    one-source plan file (file_named plan files) (file_named file files) a b x (subst (λ f. IsSourceAnswer plan f (file_named plan files) (file_named f files) b) s.1 z)
 
 pub usage-answered : UsageHasAnswer
 usage-answered words files u = (usage, no_command u refl)
 
-pub exec-answered : ExecHasAnswer
-exec-answered words files file m = let x = some-exec always_one file (file_named file files) in (x.0, exec file m x.1)
+pub command-answered : CommandHasAnswer
+command-answered = record {
+  exec = λ words files file m. let x = some-exec file (file_named file files) in (x.0, exec file m x.1);
+  exec_plan = λ words files file plan m. let x = some-exec-plan file plan (file_named file files) (file_named plan files) in (x.0, exec_plan file plan m x.1);
+  source = λ words files plan file m. let x = some-source plan file (file_named plan files) (file_named file files) in (x.0, source plan file m x.1);
+}

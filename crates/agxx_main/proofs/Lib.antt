@@ -1,2 +1,4 @@
-pub mod Runs
+pub mod Texts
+pub mod Opens
+pub mod Openings
 pub mod Dues

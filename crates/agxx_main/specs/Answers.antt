@@ -2,10 +2,11 @@
 use Rattle.std.specs.Prelude.{◌≡◌, ◌≤◌, ◌<◌, ℕ, List, [], length, Option, Some, None}
 use Rattle.agxx_base.specs.Files.{Listing, file_named}
 use Rattle.agxx_base.specs.declared.fault.Refusal.{Refusal}
-use Rattle.agxx_base.specs.declared.kind.Mode.TheVariants.{Woven}
+use Rattle.agxx_base.specs.declared.kind.Mode.{Mode}
+use Rattle.agxx_base.specs.declared.kind.Mode.TheVariants as mode
 use Rattle.agxx_base.specs.declared.place.Place.{Place}
 use Rattle.agxx_base.specs.declared.rule.Rule.{Rule}
-use Rattle.agxx_base.specs.declared.rule.Rule.TheVariants.{S1, U1}
+use Rattle.agxx_base.specs.declared.rule.Rule.TheVariants.{S1}
 use Rattle.agxx_base.specs.declared.status.Status.TheVariants as status_of
 use Rattle.cxx_lex.specs.Tokens.{Token, HasTokens, RefusedAt}
 use Rattle.cxx_tree.specs.ProgramTree.{ProgramTree}
@@ -13,10 +14,14 @@ use Rattle.cxx_parse.specs.Numbering.{names_of}
 use Rattle.cxx_parse.specs.Parsed.{IsParsed, IsReadAs, IsRefused}
 use Rattle.cxx_normal.specs.Normal.{with_main, normal_among}
 use Rattle.cxx_types.specs.Violations.{refusal_of}
-use Rattle.first_form.specs.FirstForm.{Statement, IsFirstForm, printed}
+use Rattle.flip_plan.specs.Plans.{PlanMeaning, default_plan}
+use Rattle.flip_plan.specs.Reading.{plan_of}
+use Rattle.flip_plan.specs.Refusals.{least}
+use Rattle.flip_plan.specs.Rules.{violations_of_plan}
 use Rattle.agxx_main.specs.declared.answer.Answer.{Answer}
-use Rattle.agxx_main.specs.Commands.{MeansExec, IsUsage}
-use Rattle.agxx_main.specs.Lines.{usage_line, ended_line, unreadable_line, refusal_line}
+use Rattle.agxx_main.specs.Commands.{MeansExec, MeansExecPlan, MeansSource, IsUsage}
+use Rattle.agxx_main.specs.Lines.{usage_line, unreadable_line, refusal_line}
+use Rattle.agxx_main.specs.RunAnswers.{woven_answer, source_answer}
 
 abbrev pub usage : Answer
 usage = record { status = status_of.Usage; out = []; diag = usage_line }
@@ -27,57 +32,98 @@ unreadable file = record { status = status_of.ReadFault; out = []; diag = unread
 abbrev pub refused : List ℕ → Refusal → Answer
 refused file refusal = record { status = status_of.Refused; out = []; diag = refusal_line file refusal }
 
-abbrev pub ended : List ℕ → Answer
-ended out = record { status = status_of.Done; out = out; diag = ended_line }
-
 -- a rule that is violated at the beginning of the file
 abbrev pub at_beginning : Rule → Refusal
 at_beginning rule = record { rule = rule; place = record { file = 0; line = 1; column = 1 } }
+
+-- ---- the text of a program
 
 -- the names of a program of these tokens alone
 abbrev pub names_in : List Token → List (List ℕ)
 names_in tokens = names_of [] tokens
 
 -- the tokens are this program, places and all
-abbrev pub IsProgramIn : List Token → Place → ProgramTree → Type 0
-IsProgramIn tokens end program = IsParsed Woven (names_in tokens) tokens end program × IsReadAs Woven (names_in tokens) tokens end program
+abbrev pub IsProgramIn : Mode → List Token → Place → ProgramTree → Type 0
+IsProgramIn mode tokens end program = IsParsed mode (names_in tokens) tokens end program × IsReadAs mode (names_in tokens) tokens end program
 
 -- the names of the normal form of such a program
 abbrev pub normal_names : List Token → List (List ℕ)
 normal_names tokens = with_main (names_in tokens)
 
--- the rule on names and types that a program violates, and where, if it violates one
-abbrev pub violation_in : List Token → ProgramTree → Option Refusal
-violation_in tokens program = refusal_of (normal_names tokens) Woven (normal_among (normal_names tokens) program)
+-- What programs answer that violate no rule, by their files, names and normal forms.
+abbrev pub Running : Type 0
+Running = List ℕ → List (List ℕ) → ProgramTree → Answer
 
--- the tokens are a program that violates no rule on names and types
-abbrev pub HasProgram : List Token → Place → Type 0
-HasProgram tokens end = (program : ProgramTree) × IsProgramIn tokens end program × (violation_in tokens program ≡ None)
+-- what a program in normal form answers, by the rule on names and types that it violates, if it violates one
+abbrev pub by_violation : Running → List ℕ → List (List ℕ) → ProgramTree → Option Refusal → Answer
+by_violation run file names q None = run file names q
+by_violation run file names q (Some refusal) = refused file refusal
+
+-- it is refused by its first violation, or run
+abbrev pub normal_answer : Mode → Running → List ℕ → List (List ℕ) → ProgramTree → Answer
+normal_answer mode run file names q = by_violation run file names q (refusal_of names mode q)
+
+-- the same of a program of these tokens
+abbrev pub program_answer : Mode → Running → List ℕ → List Token → ProgramTree → Answer
+program_answer mode run file tokens program = normal_answer mode run file (normal_names tokens) (normal_among (normal_names tokens) program)
 
 -- the refusal of tokens that are no program
-abbrev pub IsRefusalIn : List Token → Place → Refusal → Type 0
-IsRefusalIn tokens end refusal = IsRefused Woven (names_in tokens) tokens end refusal
+abbrev pub IsRefusalIn : Mode → List Token → Place → Refusal → Type 0
+IsRefusalIn mode tokens end refusal = IsRefused mode (names_in tokens) tokens end refusal
 
--- What `exec` answers for a file of these bytes: a refusal for its size, its tokens, its grammar, its names and types or its
--- form, or the run of its `main`, which ends with 0.
-pub data IsRunOf (file text : List ℕ) (answer : Answer) : Type 0 where
-  too_large : 16777216 < length text → answer ≡ refused file (at_beginning S1) → IsRunOf file text answer
-  no_tokens : (refusal : Refusal) → length text ≤ 16777216 → RefusedAt Woven 0 text refusal → answer ≡ refused file refusal → IsRunOf file text answer
-  no_program : (tokens : List Token) (end : Place) (refusal : Refusal) → length text ≤ 16777216 → HasTokens Woven 0 text tokens end → IsRefusalIn tokens end refusal
-      → answer ≡ refused file refusal → IsRunOf file text answer
-  violates : (tokens : List Token) (end : Place) (program : ProgramTree) (refusal : Refusal) → length text ≤ 16777216 → HasTokens Woven 0 text tokens end
-      → IsProgramIn tokens end program → violation_in tokens program ≡ Some refusal → answer ≡ refused file refusal → IsRunOf file text answer
-  runs : (tokens : List Token) (end : Place) (program : ProgramTree) (statements : List Statement) → length text ≤ 65536 → HasTokens Woven 0 text tokens end
-      → IsProgramIn tokens end program → violation_in tokens program ≡ None → IsFirstForm tokens statements → answer ≡ ended (printed statements) → IsRunOf file text answer
-  unbuilt : (tokens : List Token) (end : Place) (program : ProgramTree) → length text ≤ 16777216 → HasTokens Woven 0 text tokens end → IsProgramIn tokens end program
-      → violation_in tokens program ≡ None → ((statements : List Statement) → IsFirstForm tokens statements → length text ≤ 65536 → ⊥) → answer ≡ refused file (at_beginning U1) → IsRunOf file text answer
+-- What is answered for a program's text: a refusal for its tokens or its grammar, or what the program answers.
+pub data IsTextAnswer (mode : Mode) (run : Running) (file text : List ℕ) (answer : Answer) : Type 0 where
+  no_tokens : (refusal : Refusal) → RefusedAt mode 0 text refusal → answer ≡ refused file refusal → IsTextAnswer mode run file text answer
+  no_program : (tokens : List Token) (end : Place) (refusal : Refusal) → HasTokens mode 0 text tokens end → IsRefusalIn mode tokens end refusal
+      → answer ≡ refused file refusal → IsTextAnswer mode run file text answer
+  judged : (tokens : List Token) (end : Place) (program : ProgramTree) → HasTokens mode 0 text tokens end
+      → IsProgramIn mode tokens end program → answer ≡ program_answer mode run file tokens program → IsTextAnswer mode run file text answer
 
--- what `exec` answers for a file of this name
-abbrev pub IsExecOf : List ℕ → Option (List ℕ) → Answer → Type 0
-IsExecOf file None answer = answer ≡ unreadable file
-IsExecOf file (Some text) answer = IsRunOf file text answer
+-- ---- files
+
+-- the most bytes of a program that is woven text, and of a plan
+abbrev pub largest_woven : ℕ
+largest_woven = 16777216
+
+-- the most bytes of a program that is a source
+abbrev pub largest_source : ℕ
+largest_source = 4194304
+
+-- a file that can't be read, or is too large
+abbrev pub IsClosed : List ℕ → ℕ → Option (List ℕ) → Answer → Type 0
+IsClosed file limit None answer = answer ≡ unreadable file
+IsClosed file limit (Some text) answer = (limit < length text) × (answer ≡ refused file (at_beginning S1))
+
+-- what is answered for a file with this content: that it can't be opened, or what is answered then for its text
+pub data Opens (file : List ℕ) (limit : ℕ) (content : Option (List ℕ)) (Then : List ℕ → Answer → Type 0) (answer : Answer) : Type 0 where
+  closed : IsClosed file limit content answer → Opens file limit content Then answer
+  opened : (text : List ℕ) → content ≡ Some text → length text ≤ limit → Then text answer → Opens file limit content Then answer
+
+-- what is answered for the text of a plan: its refusal, or what is answered then for the plan
+pub data Plans (file text : List ℕ) (Then : PlanMeaning → Answer → Type 0) (answer : Answer) : Type 0 where
+  refused_plan : (refusal : Refusal) → least (violations_of_plan 0 text) ≡ Some refusal → answer ≡ refused file refusal → Plans file text Then answer
+  accepted_plan : least (violations_of_plan 0 text) ≡ None → Then (plan_of text) answer → Plans file text Then answer
+
+-- ---- commands, where their files have these contents
+
+-- `exec` without a plan
+abbrev pub IsExecAnswer : List ℕ → Option (List ℕ) → Answer → Type 0
+IsExecAnswer file content answer =
+    Opens file largest_woven content (λ text. IsTextAnswer mode.Woven (woven_answer default_plan) file text) answer
+
+-- `exec` with a plan
+abbrev pub IsExecPlanAnswer : List ℕ → List ℕ → Option (List ℕ) → Option (List ℕ) → Answer → Type 0
+IsExecPlanAnswer file plan content lines answer =
+    Opens file largest_woven content (λ text. Opens plan largest_woven lines (λ steps. Plans plan steps (λ p. IsTextAnswer mode.Woven (woven_answer p) file text))) answer
+
+-- `source`
+abbrev pub IsSourceAnswer : List ℕ → List ℕ → Option (List ℕ) → Option (List ℕ) → Answer → Type 0
+IsSourceAnswer plan file lines content answer =
+    Opens plan largest_woven lines (λ steps. Opens file largest_source content (λ text. Plans plan steps (λ p. IsTextAnswer mode.Source (source_answer p) file text))) answer
 
 -- The answer for these words and files.
 pub data IsAnswer (words : List (List ℕ)) (files : Listing) (answer : Answer) : Type 0 where
   no_command : IsUsage words → answer ≡ usage → IsAnswer words files answer
-  exec : (file : List ℕ) → MeansExec words file → IsExecOf file (file_named file files) answer → IsAnswer words files answer
+  exec : (file : List ℕ) → MeansExec words file → IsExecAnswer file (file_named file files) answer → IsAnswer words files answer
+  exec_plan : (file plan : List ℕ) → MeansExecPlan words file plan → IsExecPlanAnswer file plan (file_named file files) (file_named plan files) answer → IsAnswer words files answer
+  source : (plan file : List ℕ) → MeansSource words plan file → IsSourceAnswer plan file (file_named plan files) (file_named file files) answer → IsAnswer words files answer

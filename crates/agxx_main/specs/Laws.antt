@@ -5,7 +5,7 @@ use Rattle.agxx_base.specs.declared.rule.Rule.{Rule}
 use Rattle.agxx_base.specs.declared.rule.Rule.TheVariants.{G1, G2}
 use Rattle.agxx_base.specs.Files.{Listing}
 use Rattle.agxx_main.specs.declared.answer.Answer.{Answer}
-use Rattle.agxx_main.specs.Commands.{MeansExec, IsUsage}
+use Rattle.agxx_main.specs.Commands.{MeansExec, MeansExecPlan, MeansSource, IsUsage}
 use Rattle.agxx_main.specs.Answers.{refused, IsAnswer}
 
 -- the rules of the grammar of programs
@@ -24,5 +24,8 @@ HasOneAnswer = (words : List (List ℕ)) (files : Listing) (a b : Answer) → Is
 abbrev pub UsageHasAnswer : Type 0
 UsageHasAnswer = (words : List (List ℕ)) (files : Listing) → IsUsage words → (a : Answer) × IsAnswer words files a
 
-abbrev pub ExecHasAnswer : Type 0
-ExecHasAnswer = (words : List (List ℕ)) (files : Listing) (file : List ℕ) → MeansExec words file → (a : Answer) × IsAnswer words files a
+-- each command has one
+pub record CommandHasAnswer : Type 0 where
+  pub exec : (words : List (List ℕ)) (files : Listing) (file : List ℕ) → MeansExec words file → (a : Answer) × IsAnswer words files a
+  pub exec_plan : (words : List (List ℕ)) (files : Listing) (file plan : List ℕ) → MeansExecPlan words file plan → (a : Answer) × IsAnswer words files a
+  pub source : (words : List (List ℕ)) (files : Listing) (plan file : List ℕ) → MeansSource words plan file → (a : Answer) × IsAnswer words files a

@@ -1,5 +1,6 @@
 pub mod Commands
 pub mod Lines
+pub mod RunAnswers
 pub mod Answers
 pub mod Outcome
 pub mod Laws

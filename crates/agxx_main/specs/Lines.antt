@@ -7,9 +7,6 @@ use Rattle.agxx_base.specs.declared.fault.Refusal.{Refusal}
 abbrev pub usage_line : List ℕ
 usage_line = codes "usage: agxx weave CC AH.. | exec CC [PLAN] | run PLAN CC AH.. | source PLAN CC AH.. | points CC AH.. | demo N\n"
 
-abbrev pub ended_line : List ℕ
-ended_line = codes "ended 0\n"
-
 abbrev pub unreadable_line : List ℕ → List ℕ
 unreadable_line file = codes "agxx: cannot read " ++ file ++ 10 ∷ []
 

@@ -1,26 +1,59 @@
 -- What a call of the program does, whatever fails.
-use Rattle.std.specs.Prelude.{◌≡◌, ◌≢◌, ◌≤◌, ℕ, List, length, take, Option, Some, None}
+use Rattle.std.specs.Prelude.{◌≡◌, ◌≤◌, ℕ, List, length, take, Option, Some, None}
 use Rattle.agxx_base.specs.Causes.{Rose}
 use Rattle.agxx_base.specs.Files.{Listing, file_named}
 use Rattle.agxx_base.specs.Sink.{appended}
 use Rattle.agxx_base.specs.declared.status.Status.{Status}
-use Rattle.agxx_base.specs.declared.status.Status.TheVariants.{ReadFault, WriteFault, Memory}
+use Rattle.agxx_base.specs.declared.status.Status.TheVariants.{WriteFault, Memory}
 use Rattle.agxx_main.specs.declared.answer.Answer.{Answer}
-use Rattle.agxx_main.specs.Commands.{MeansExec}
-use Rattle.agxx_main.specs.Answers.{IsAnswer, IsExecOf, IsRunOf, unreadable}
+use Rattle.agxx_main.specs.declared.files.Opened.{Opened}
+use Rattle.agxx_main.specs.declared.files.Opened.TheVariants as opened
+use Rattle.agxx_main.specs.Commands.{MeansExec, MeansExecPlan, MeansSource, IsUsage}
+use Rattle.agxx_main.specs.Answers.{usage, IsClosed, IsExecAnswer, IsExecPlanAnswer, IsSourceAnswer}
 
--- The answer that is due: that of the files that are told, or of some files that can be read where none are told, or that
--- the file can't be read where a read failed.
+-- What reading a file may give while the count of faults goes from one number to another: what the list says that is told;
+-- any text where none is told; or nothing, where the count rose.
+pub data Gives (listed : Option Listing) (before now : ℕ) (file : List ℕ) (content : Option (List ℕ)) : Type 0 where
+  told : (files : Listing) → listed ≡ Some files → content ≡ file_named file files → Gives listed before now file content
+  untold : (text : List ℕ) → listed ≡ None → content ≡ Some text → Gives listed before now file content
+  failed : Rose before now → content ≡ None → Gives listed before now file content
+
+-- a file was opened with its text, or can't be opened, for which there is this answer
+abbrev pub IsOpened : List ℕ → ℕ → Option (List ℕ) → Opened → Type 0
+IsOpened file limit content (opened.Text text) = (content ≡ Some text) × (length text ≤ limit)
+IsOpened file limit content (opened.Closed answer) = IsClosed file limit content answer
+
+pub record Opening (listed : Option Listing) (before now : ℕ) (file : List ℕ) (limit : ℕ) (result : Opened) : Type 0 where
+  pub content : Option (List ℕ)
+  pub given : Gives listed before now file content
+  pub opened : IsOpened file limit content result
+
+-- ---- the answer that is due, where files give what they may
+
+pub record IsExecDue (listed : Option Listing) (before now : ℕ) (file : List ℕ) (answer : Answer) : Type 0 where
+  pub content : Option (List ℕ)
+  pub given : Gives listed before now file content
+  pub is : IsExecAnswer file content answer
+
+pub record IsExecPlanDue (listed : Option Listing) (before now : ℕ) (file plan : List ℕ) (answer : Answer) : Type 0 where
+  pub content : Option (List ℕ)
+  pub lines : Option (List ℕ)
+  pub content_given : Gives listed before now file content
+  pub lines_given : Gives listed before now plan lines
+  pub is : IsExecPlanAnswer file plan content lines answer
+
+pub record IsSourceDue (listed : Option Listing) (before now : ℕ) (plan file : List ℕ) (answer : Answer) : Type 0 where
+  pub lines : Option (List ℕ)
+  pub content : Option (List ℕ)
+  pub lines_given : Gives listed before now plan lines
+  pub content_given : Gives listed before now file content
+  pub is : IsSourceAnswer plan file lines content answer
+
 pub data IsDue (words : List (List ℕ)) (listed : Option Listing) (before now : ℕ) (answer : Answer) : Type 0 where
-  told : (files : Listing) → listed ≡ Some files → IsAnswer words files answer → IsDue words listed before now answer
-  untold : (files : Listing) → listed ≡ None → answer.status ≢ ReadFault → IsAnswer words files answer → IsDue words listed before now answer
-  unread : (file : List ℕ) → Rose before now → MeansExec words file → answer ≡ unreadable file → IsDue words listed before now answer
-
--- the same for the file of `exec`
-pub data IsExecDue (file : List ℕ) (listed : Option Listing) (before now : ℕ) (answer : Answer) : Type 0 where
-  told_file : (files : Listing) → listed ≡ Some files → IsExecOf file (file_named file files) answer → IsExecDue file listed before now answer
-  untold_file : (text : List ℕ) → listed ≡ None → IsRunOf file text answer → IsExecDue file listed before now answer
-  unread_file : Rose before now → answer ≡ unreadable file → IsExecDue file listed before now answer
+  no_command : IsUsage words → answer ≡ usage → IsDue words listed before now answer
+  exec : (file : List ℕ) → MeansExec words file → IsExecDue listed before now file answer → IsDue words listed before now answer
+  exec_plan : (file plan : List ℕ) → MeansExecPlan words file plan → IsExecPlanDue listed before now file plan answer → IsDue words listed before now answer
+  source : (plan file : List ℕ) → MeansSource words plan file → IsSourceDue listed before now plan file answer → IsDue words listed before now answer
 
 -- a sink got a prefix of these bytes
 abbrev pub GetsPrefix : Option (List ℕ) → Option (List ℕ) → List ℕ → Type 0

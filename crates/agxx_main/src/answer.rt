@@ -1,12 +1,11 @@
 //! The program's answer, before it is written.
 
-ghost use Rattle.std.specs.Prelude.{◌≡◌, [], ◌∷◌, ◌++◌, IfOk, OnOk};
-ghost use Rattle.std.specs.Fmt.{decimal};
+ghost use Rattle.std.specs.Prelude.{◌≡◌, IfOk};
 ghost use Rattle.agxx_main.specs.Lines as lines;
 
+use crate::line::Line;
 use agxx_base::{Memory, Refusal, Status, Text};
 use std::alloc::Global;
-use std::marker::Model;
 
 /// What the program tells: its status, and the bytes for standard output and standard error.
 #[derive(Debug, Drop)]
@@ -14,55 +13,6 @@ pub struct Answer {
     pub status: Status,
     pub out: Text,
     pub diag: Text,
-}
-
-/// A line that is put together.
-#[derive(Drop)]
-struct Line {
-    alloc: Global,
-    bytes: Vec<u8>,
-}
-
-impl Model for Line {
-    ghost use Rattle.std.specs.Prelude.{List, ℕ};
-
-    ghost Value = { List ℕ };
-
-    ghost view = { λ line. line.bytes.items };
-}
-
-impl Line {
-    fn new(alloc: Global) -> Line
-        ensures { result ≡ [] }
-    {
-        Line {
-            alloc,
-            bytes: Vec::new(alloc),
-        }
-    }
-
-    fn text(&mut self, bytes: &[u8]) -> Result<(), Memory>
-        ensures { OnOk result (self.new ≡ self.old ++ bytes.now) }
-    {
-        self.bytes.extend_from_slice(bytes)?;
-        Ok(())
-    }
-
-    fn number(&mut self, number: u32) -> Result<(), Memory>
-        ensures { OnOk result (self.new ≡ self.old ++ decimal number) }
-    {
-        let digits = format!(in self.alloc; "{number}")?;
-        self.text(digits.as_bytes())
-    }
-
-    /// The line with its newline.
-    fn end(mut self) -> Result<Text, Memory>
-        ensures { IfOk result (λ text. text ≡ self ++ 10 ∷ []) }
-    {
-        self.bytes.push(b'\n')?;
-        let Line { alloc: _, bytes } = self;
-        Ok(Text::from_vec(bytes))
-    }
 }
 
 fn unreadable_line(alloc: Global, file: &[u8]) -> Result<Text, Memory>
@@ -80,9 +30,9 @@ fn refusal_line(alloc: Global, file: &[u8], refusal: Refusal) -> Result<Text, Me
     let mut line = Line::new(alloc);
     line.text(file)?;
     line.text(b":".as_slice())?;
-    line.number(refusal.place.line)?;
+    line.number(u64::from(refusal.place.line))?;
     line.text(b":".as_slice())?;
-    line.number(refusal.place.column)?;
+    line.number(u64::from(refusal.place.column))?;
     line.text(b": ".as_slice())?;
     line.text(refusal.rule.code().as_bytes())?;
     line.text(b": ".as_slice())?;
@@ -130,18 +80,6 @@ impl Answer {
         let diag = refusal_line(alloc, file.bytes(), refusal)?;
         Ok(Answer {
             status: Status::Refused,
-            out,
-            diag,
-        })
-    }
-
-    /// `main` ended with 0 after it printed these bytes.
-    pub fn ended(alloc: Global, out: Text) -> Result<Answer, Memory>
-        ensures { IfOk result (λ answer. answer ≡ answers.ended out) }
-    {
-        let diag = Text::from_bytes(alloc, b"ended 0\n".as_slice())?;
-        Ok(Answer {
-            status: Status::Done,
             out,
             diag,
         })

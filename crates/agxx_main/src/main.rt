@@ -4,10 +4,17 @@
 #![tactic(auto)]
 
 mod answer;
-mod exec;
+mod buffer;
+mod commands;
+mod files;
+mod line;
+mod program;
+mod run;
+mod summary;
 #[cfg(test)]
 mod tests;
 mod top;
+mod way;
 mod words;
 
 use agxx_base::{DiskFiles, Memory, Status, StdSink, Text, Words};

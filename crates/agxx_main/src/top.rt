@@ -3,11 +3,11 @@
 ghost use Rattle.std.specs.Prelude.{◌≡◌, ◌≤◌, IfOk, OnErr};
 ghost use Rattle.agxx_base.specs.Causes.{Rose};
 ghost use Rattle.agxx_main.specs.Outcome.{Ends, Gets, GivesUp};
-ghost use Rattle.agxx_main.specs.Laws.{HasOneAnswer, UsageHasAnswer, ExecHasAnswer};
+ghost use Rattle.agxx_main.specs.Laws.{HasOneAnswer, UsageHasAnswer, CommandHasAnswer};
 
 use crate::answer::Answer;
-use crate::exec::exec;
-use crate::words::exec_file;
+use crate::commands::{exec, exec_plan, source};
+use crate::words::{Command, read_command};
 use agxx_base::{Files, Memory, Sink, Status, Words, write_whole};
 use std::alloc::Global;
 
@@ -47,9 +47,15 @@ pub fn agxx<F: Files, O: Sink, E: Sink>(
     ensures out_later { O.faults out.old ≤ O.faults out.new }
     ensures diag_later { E.faults diag.old ≤ E.faults diag.new }
 {
-    match exec_file(words) {
+    match read_command(words) {
         None => deliver(Answer::usage(alloc), out, diag),
-        Some(file) => deliver(exec(alloc, file, files), out, diag),
+        Some(Command::Exec(file)) => deliver(exec(alloc, file, files), out, diag),
+        Some(Command::ExecPlan(file, plan)) => {
+            deliver(exec_plan(alloc, file, plan, files), out, diag)
+        }
+        Some(Command::Source(plan, file)) => {
+            deliver(source(alloc, plan, file, files), out, diag)
+        }
     }
 }
 
@@ -57,5 +63,5 @@ pub fn agxx<F: Files, O: Sink, E: Sink>(
 pub fn answers_are_determined()
     ensures one { HasOneAnswer }
     ensures usage { UsageHasAnswer }
-    ensures exec { ExecHasAnswer }
+    ensures command { CommandHasAnswer }
 {}

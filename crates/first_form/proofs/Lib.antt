@@ -1,4 +1,0 @@
-pub mod Exact
-pub mod Onward
-pub mod Forms
-pub mod Sums
