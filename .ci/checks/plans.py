@@ -276,6 +276,10 @@ def fault(run):
     return f"status {came[0]}, {came[1][:80]!r}, {came[2]}; wanted {status}, {output[:80]!r}, {lines}: {words} {text}"
 
 
+# A program with a name of more than 64 bytes, which `source` refuses where it stands.
+LONG_NAMES = {"names.cc": (1, b"", ["a.cc:27:9: L5: name too long"])}
+
+
 def differing(path):
     """How a program's runs without a plan, by the plan that this means, and of its source by this plan differ, or nothing."""
     with tempfile.TemporaryDirectory() as folder:
@@ -283,8 +287,9 @@ def differing(path):
         (pathlib.Path(folder) / "x.plan").write_bytes(DEFAULT)
         came = [program.run_words(words, folder) for words in (["exec", "a.cc"], *COMMANDS.values())]
     # The summary of `source` may be shorter.
-    first, *others = [(status, output, lines[:2]) for status, output, lines in came]
-    return None if others == [first, first] else f"{path}: {came}"[:1000]
+    first, second, source = [(status, output, lines[:2]) for status, output, lines in came]
+    agrees = first == second and source == LONG_NAMES.get(path.name, first)
+    return None if agrees else f"{path}: {came}"[:1000]
 
 
 def full_fault(run):
