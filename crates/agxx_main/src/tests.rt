@@ -415,29 +415,9 @@ fn other_words_are_a_usage_fault(rt: HostRuntime) -> Result<(), Fail> {
 }
 
 #[test]
-fn a_missing_plan_is_told(rt: HostRuntime) -> Result<(), Fail> {
-    let alloc = rt.alloc();
-    let words = words_of(alloc, &[b"exec", b"a.cc", b"missing.plan"])?;
-    let mut files = files_of(alloc, SUM)?;
-    let mut out = MemSink::new(alloc, 100)?;
-    let mut diag = MemSink::new(alloc, 100)?;
-    let status = agxx(alloc, &words, &mut files, &mut out, &mut diag);
-    assert_eq!(rt; status, Status::ReadFault);
-    assert_eq!(rt; out.bytes(), b"".as_slice());
-    assert_eq!(rt;
-        diag.bytes(),
-        b"agxx: cannot read missing.plan\n".as_slice()
-    );
-    Ok(())
-}
-
-#[test]
-fn what_fails_is_told(rt: HostRuntime) -> Result<(), Fail> {
+fn a_file_that_cannot_be_read_is_told(rt: HostRuntime) -> Result<(), Fail> {
     let alloc = rt.alloc();
     let words = words_of(alloc, &[b"exec", b"a.cc"])?;
-    let other = words_of(alloc, &[b"exec", b"missing.cc"])?;
-    let unread = b"agxx: cannot read a.cc\n".as_slice();
-
     let mut files = files_of(alloc, SUM)?;
     files.fail_read(2)?;
     let mut out = MemSink::new(alloc, 100)?;
@@ -445,28 +425,72 @@ fn what_fails_is_told(rt: HostRuntime) -> Result<(), Fail> {
     let status = agxx(alloc, &words, &mut files, &mut out, &mut diag);
     assert_eq!(rt; status, Status::ReadFault);
     assert_eq!(rt; out.bytes(), b"".as_slice());
-    assert_eq!(rt; diag.bytes(), unread);
+    assert_eq!(rt; diag.bytes(), b"agxx: cannot read a.cc\n".as_slice());
+    Ok(())
+}
 
-    let status = agxx(alloc, &other, &mut files, &mut out, &mut diag);
+/// The command whose file is missing, which is told in this line.
+fn expect_missing(
+    rt: &impl Abort,
+    alloc: Global,
+    words: &[&[u8]],
+    line: &[u8],
+) -> Result<(), Fail> {
+    let words = words_of(alloc, words)?;
+    let mut files = files_of(alloc, SUM)?;
+    let mut out = MemSink::new(alloc, 100)?;
+    let mut diag = MemSink::new(alloc, 100)?;
+    let status = agxx(alloc, &words, &mut files, &mut out, &mut diag);
     assert_eq!(rt; status, Status::ReadFault);
-    assert_eq!(rt;
-        diag.bytes(),
-        b"agxx: cannot read a.cc\nagxx: cannot read missing.cc\n".as_slice()
-    );
+    assert_eq!(rt; out.bytes(), b"".as_slice());
+    assert_eq!(rt; diag.bytes(), line);
+    Ok(())
+}
 
+#[test]
+fn a_missing_file_is_told(rt: HostRuntime) -> Result<(), Fail> {
+    let alloc = rt.alloc();
+    expect_missing(
+        &rt,
+        alloc,
+        &[b"exec", b"missing.cc"],
+        b"agxx: cannot read missing.cc\n",
+    )?;
+    expect_missing(
+        &rt,
+        alloc,
+        &[b"exec", b"a.cc", b"missing.plan"],
+        b"agxx: cannot read missing.plan\n",
+    )
+}
+
+/// The sum is run, and a stream takes no more after so many bytes.
+fn expect_cut(
+    rt: &impl Abort,
+    alloc: Global,
+    streams: (&mut MemSink, &mut MemSink),
+    wanted: (&[u8], &[u8]),
+) -> Result<(), Fail> {
+    let words = words_of(alloc, &[b"exec", b"a.cc"])?;
+    let mut files = files_of(alloc, SUM)?;
+    let (out, diag) = streams;
+    let status = agxx(alloc, &words, &mut files, out, diag);
+    assert_eq!(rt; status, Status::WriteFault);
+    assert_eq!(rt; out.bytes(), wanted.0);
+    assert_eq!(rt; diag.bytes(), wanted.1);
+    Ok(())
+}
+
+#[test]
+fn a_stream_that_fails_is_told(rt: HostRuntime) -> Result<(), Fail> {
+    let alloc = rt.alloc();
     let mut out = MemSink::new(alloc, 100)?;
     out.take_at_most(1);
     out.fail_write(2)?;
-    let status = agxx(alloc, &words, &mut files, &mut out, &mut diag);
-    assert_eq!(rt; status, Status::WriteFault);
-    assert_eq!(rt; out.bytes(), b"5".as_slice());
-
+    let mut diag = MemSink::new(alloc, 100)?;
+    expect_cut(&rt, alloc, (&mut out, &mut diag), (b"5", b""))?;
     let mut out = MemSink::new(alloc, 100)?;
     out.take_at_most(1);
     let mut diag = MemSink::new(alloc, 3)?;
-    let status = agxx(alloc, &words, &mut files, &mut out, &mut diag);
-    assert_eq!(rt; status, Status::WriteFault);
-    assert_eq!(rt; out.bytes(), b"5\n".as_slice());
-    assert_eq!(rt; diag.bytes(), b"end".as_slice());
-    Ok(())
+    expect_cut(&rt, alloc, (&mut out, &mut diag), (b"5\n", b"end"))
 }
