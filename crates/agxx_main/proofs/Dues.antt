@@ -1,5 +1,5 @@
 -- The answer that is due: that there is one, and that the answer for words and files is one.
-use Rattle.std.proofs.Common.{◌≡◌, ℕ, List, [], ◌∷◌, Option, Some, None, Result, Ok, Err, refl, sym, ◌∙◌, subst, append-nil, ap, arith}
+use Rattle.std.proofs.Common.{◌≡◌, ℕ, ◌≤◌, List, [], ◌∷◌, Option, Some, None, Result, Ok, Err, refl, sym, ◌∙◌, subst, append-nil, ap, arith}
 use Rattle.std.specs.Prelude.{IfOk, OnErr, take}
 use Rattle.agxx_base.specs.Files.{Listing, file_named}
 use Rattle.agxx_base.specs.Sink.{appended}
@@ -12,10 +12,11 @@ use Rattle.agxx_main.specs.declared.answer.Answer.{Answer}
 use Rattle.agxx_main.specs.Commands.{MeansExec, MeansExecPlan, MeansSource}
 use Rattle.agxx_main.specs.RunAnswers.{woven_answer, source_answer}
 use Rattle.agxx_main.specs.Answers.{usage, largest_woven, largest_source, Plans, Opens, IsTextAnswer, IsExecAnswer, IsExecPlanAnswer, IsSourceAnswer, no_command, exec, exec_plan, source}
+use Rattle.agxx_main.specs.Outcome as due
 use Rattle.agxx_main.specs.Outcome.{IsExecDue, IsExecPlanDue, IsSourceDue, IsDue, GetsPrefix, Gets, no_memory, GivesUp, Ends}
-use Rattle.agxx_main.specs.Laws.{IsAlike, same, HasOneAnswer, UsageHasAnswer, CommandHasAnswer}
+use Rattle.agxx_main.specs.Laws.{IsAlike, same, HasOneAnswer, UsageHasAnswer, CommandHasAnswer, DueIsAnswer}
 use Rattle.agxx_main.proofs.Texts.{has-text, one-text}
-use Rattle.agxx_main.proofs.Opens.{some-opens, some-plans, one-opens, one-plans, some-given}
+use Rattle.agxx_main.proofs.Opens.{some-opens, some-plans, one-opens, one-plans, some-given, told-alone, told-first, told-second}
 
 -- ---- there is an answer
 
@@ -43,19 +44,19 @@ some-exec-due listed before now file =
     let a = some-exec file c.0 in
     (a.0, record { content = c.0; given = c.1; is = a.1 })
 
-pub some-exec-plan-due : (listed : Option Listing) (before now : ℕ) (file plan : List ℕ) → (a : Answer) × IsExecPlanDue listed before now file plan a
-some-exec-plan-due listed before now file plan =
+pub some-exec-plan-due : (listed : Option Listing) (before now : ℕ) (file plan : List ℕ) → before ≤ now → (a : Answer) × IsExecPlanDue listed before now file plan a
+some-exec-plan-due listed before now file plan m =
     let c = some-given listed before now file in
-    let l = some-given listed before now plan in
+    let l = some-given listed now now plan in
     let a = some-exec-plan file plan c.0 l.0 in
-    (a.0, record { content = c.0; lines = l.0; content_given = c.1; lines_given = l.1; is = a.1 })
+    (a.0, record { between = now; first = m; second = omega arith; content = c.0; lines = l.0; content_given = c.1; lines_given = l.1; is = a.1 })
 
-pub some-source-due : (listed : Option Listing) (before now : ℕ) (plan file : List ℕ) → (a : Answer) × IsSourceDue listed before now plan file a
-some-source-due listed before now plan file =
+pub some-source-due : (listed : Option Listing) (before now : ℕ) (plan file : List ℕ) → before ≤ now → (a : Answer) × IsSourceDue listed before now plan file a
+some-source-due listed before now plan file m =
     let l = some-given listed before now plan in
-    let c = some-given listed before now file in
+    let c = some-given listed now now file in
     let a = some-source plan file l.0 c.0 in
-    (a.0, record { lines = l.0; content = c.0; lines_given = l.1; content_given = c.1; is = a.1 })
+    (a.0, record { between = now; first = m; second = omega arith; lines = l.0; content = c.0; lines_given = l.1; content_given = c.1; is = a.1 })
 
 -- ---- the end of a call
 
@@ -170,3 +171,19 @@ command-answered = record {
   exec_plan = λ words files file plan m. let x = some-exec-plan file plan (file_named file files) (file_named plan files) in (x.0, exec_plan file plan m x.1);
   source = λ words files plan file m. let x = some-source plan file (file_named plan files) (file_named file files) in (x.0, source plan file m x.1);
 }
+
+-- ---- where files are told and no fault comes, the answer that is due is theirs
+
+pub due-is-answer : DueIsAnswer
+due-is-answer words files before now a none (due.no_command u e) = no_command u e
+due-is-answer words files before now a none (due.exec file m d) = exec file m (subst (λ c. IsExecAnswer file c a) (told-alone files before now file d.content none d.given) d.is)
+due-is-answer words files before now a none (due.exec_plan file plan m d) =
+    let c = told-first files before d.between now file d.content d.second none d.content_given in
+    let l = told-second files before d.between now plan d.lines d.first none d.lines_given in
+    let x : IsExecPlanAnswer file plan (file_named file files) d.lines a = subst (λ t. IsExecPlanAnswer file plan t d.lines a) c d.is in
+    exec_plan file plan m (subst (λ t. IsExecPlanAnswer file plan (file_named file files) t a) l x)
+due-is-answer words files before now a none (due.source plan file m d) =
+    let l = told-first files before d.between now plan d.lines d.second none d.lines_given in
+    let c = told-second files before d.between now file d.content d.first none d.content_given in
+    let x : IsSourceAnswer plan file (file_named plan files) d.content a = subst (λ t. IsSourceAnswer plan file t d.content a) l d.is in
+    source plan file m (subst (λ t. IsSourceAnswer plan file (file_named plan files) t a) c x)

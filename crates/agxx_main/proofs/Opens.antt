@@ -116,22 +116,34 @@ fault-given file limit listed before now answer (inl rose) e = (None, failed ros
 fault-given file limit None before now answer (inr w) e = absurd w
 fault-given file limit (Some files) before now answer (inr w) e = (None, told files refl (sym w), e)
 
--- while the count goes further, or went from less on
+-- a count that rose, where it goes further, or went from less on
 rose-later : (before now later : ℕ) → Rose before now → now ≤ later → Rose before later
 rose-later before now later r s = omega arith
 
 rose-earlier : (before start now : ℕ) → Rose start now → before ≤ start → Rose before now
 rose-earlier before start now r s = grind arith
 
-pub given-later : (listed : Option Listing) (before now later : ℕ) (file : List ℕ) (content : Option (List ℕ)) → now ≤ later → Gives listed before now file content → Gives listed before later file content
-given-later listed before now later file content s (told files l e) = told files l e
-given-later listed before now later file content s (untold text l e) = untold text l e
-given-later listed before now later file content s (failed r e) = failed (rose-later before now later r s) e
+-- the list that is told is this one
+same-list : (files other : Listing) → ◌≡◌ {A = Option Listing} (Some files) (Some other) → other ≡ files
+same-list files other h = cc
 
-pub given-earlier : (listed : Option Listing) (before start now : ℕ) (file : List ℕ) (content : Option (List ℕ)) → before ≤ start → Gives listed start now file content → Gives listed before now file content
-given-earlier listed before start now file content s (told files l e) = told files l e
-given-earlier listed before start now file content s (untold text l e) = untold text l e
-given-earlier listed before start now file content s (failed r e) = failed (rose-earlier before start now r s) e
+no-list : (files : Listing) → ◌≡◌ {A = Option Listing} (Some files) None → ⊥
+no-list files h = cc
+
+-- what is given of a file that is told, where no fault comes
+told-content : (files : Listing) (before now : ℕ) (file : List ℕ) (content : Option (List ℕ)) → (Rose before now → ⊥) → Gives (Some files) before now file content → content ≡ file_named file files
+told-content files before now file content none (told other l e) = e ∙ ap (file_named file) (same-list files other l)
+told-content files before now file content none (untold text l e) = absurd (no-list files l)
+told-content files before now file content none (failed r e) = absurd (none r)
+
+pub told-first : (files : Listing) (before between now : ℕ) (file : List ℕ) (content : Option (List ℕ)) → between ≤ now → (Rose before now → ⊥) → Gives (Some files) before between file content → content ≡ file_named file files
+told-first files before between now file content l none g = told-content files before between file content (λ r. none (rose-later before between now r l)) g
+
+pub told-second : (files : Listing) (before between now : ℕ) (file : List ℕ) (content : Option (List ℕ)) → before ≤ between → (Rose before now → ⊥) → Gives (Some files) between now file content → content ≡ file_named file files
+told-second files before between now file content l none g = told-content files between now file content (λ r. none (rose-earlier before between now r l)) g
+
+pub told-alone : (files : Listing) (before now : ℕ) (file : List ℕ) (content : Option (List ℕ)) → (Rose before now → ⊥) → Gives (Some files) before now file content → content ≡ file_named file files
+told-alone files before now file content none g = told-content files before now file content none g
 
 -- something is given of each file
 pub some-given : (listed : Option Listing) (before now : ℕ) (file : List ℕ) → (content : Option (List ℕ)) × Gives listed before now file content

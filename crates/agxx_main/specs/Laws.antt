@@ -1,5 +1,6 @@
 -- That the answer for words and files is a definition.
-use Rattle.std.specs.Prelude.{◌≡◌, ◌⊎◌, ℕ, List}
+use Rattle.std.specs.Prelude.{◌≡◌, ◌⊎◌, ℕ, List, Some}
+use Rattle.agxx_base.specs.Causes.{Rose}
 use Rattle.agxx_base.specs.declared.fault.Refusal.{Refusal}
 use Rattle.agxx_base.specs.declared.rule.Rule.{Rule}
 use Rattle.agxx_base.specs.declared.rule.Rule.TheVariants.{G1, G2}
@@ -7,6 +8,7 @@ use Rattle.agxx_base.specs.Files.{Listing}
 use Rattle.agxx_main.specs.declared.answer.Answer.{Answer}
 use Rattle.agxx_main.specs.Commands.{MeansExec, MeansExecPlan, MeansSource, IsUsage}
 use Rattle.agxx_main.specs.Answers.{refused, IsAnswer}
+use Rattle.agxx_main.specs.Outcome.{IsDue}
 
 -- the rules of the grammar of programs
 abbrev pub IsGrammarRule : Rule → Type 0
@@ -29,3 +31,7 @@ pub record CommandHasAnswer : Type 0 where
   pub exec : (words : List (List ℕ)) (files : Listing) (file : List ℕ) → MeansExec words file → (a : Answer) × IsAnswer words files a
   pub exec_plan : (words : List (List ℕ)) (files : Listing) (file plan : List ℕ) → MeansExecPlan words file plan → (a : Answer) × IsAnswer words files a
   pub source : (words : List (List ℕ)) (files : Listing) (plan file : List ℕ) → MeansSource words plan file → (a : Answer) × IsAnswer words files a
+
+-- what `agxx` promises, where files are told and no read fails: the answer for these files
+abbrev pub DueIsAnswer : Type 0
+DueIsAnswer = (words : List (List ℕ)) (files : Listing) (before now : ℕ) (a : Answer) → (Rose before now → ⊥) → IsDue words (Some files) before now a → IsAnswer words files a

@@ -35,18 +35,25 @@ pub record IsExecDue (listed : Option Listing) (before now : ℕ) (file : List �
   pub given : Gives listed before now file content
   pub is : IsExecAnswer file content answer
 
+-- the files are read one after the other: `between` is the count of faults behind the first
 pub record IsExecPlanDue (listed : Option Listing) (before now : ℕ) (file plan : List ℕ) (answer : Answer) : Type 0 where
+  pub between : ℕ
+  pub first : before ≤ between
+  pub second : between ≤ now
   pub content : Option (List ℕ)
   pub lines : Option (List ℕ)
-  pub content_given : Gives listed before now file content
-  pub lines_given : Gives listed before now plan lines
+  pub content_given : Gives listed before between file content
+  pub lines_given : Gives listed between now plan lines
   pub is : IsExecPlanAnswer file plan content lines answer
 
 pub record IsSourceDue (listed : Option Listing) (before now : ℕ) (plan file : List ℕ) (answer : Answer) : Type 0 where
+  pub between : ℕ
+  pub first : before ≤ between
+  pub second : between ≤ now
   pub lines : Option (List ℕ)
   pub content : Option (List ℕ)
-  pub lines_given : Gives listed before now plan lines
-  pub content_given : Gives listed before now file content
+  pub lines_given : Gives listed before between plan lines
+  pub content_given : Gives listed between now file content
   pub is : IsSourceAnswer plan file lines content answer
 
 pub data IsDue (words : List (List ℕ)) (listed : Option Listing) (before now : ℕ) (answer : Answer) : Type 0 where

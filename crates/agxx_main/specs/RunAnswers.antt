@@ -34,7 +34,9 @@ abbrev pub run_status : State → Status
 run_status (state.Ended value) = status_of.Done
 run_status (state.Stopped cause at) = status_of.Stopped
 run_status (state.Halted object class) = status_of.Halted
-run_status _ = status_of.Unfinished
+run_status state.Running = status_of.Unfinished
+-- no run by the definition comes to this
+run_status state.Lost = status_of.Unfinished
 
 -- ---- the lines for standard error
 
@@ -74,7 +76,8 @@ abbrev pub state_text : List ℕ → Setting → State → List ℕ
 state_text file s (state.Ended value) = codes "ended " ++ signed_decimal value
 state_text file s (state.Stopped cause at) = codes "stopped " ++ cause_text cause ++ codes " " ++ file ++ codes ":" ++ decimal at.line ++ codes ":" ++ decimal at.column
 state_text file s (state.Halted object class) = halted_text s object class
-state_text file s _ = codes "running"
+state_text file s state.Running = codes "running"
+state_text file s state.Lost = codes "running"
 
 -- how many turns were taken, of each kind, and how many flips changed a bit
 abbrev pub turns_text : Report → List ℕ

@@ -464,7 +464,7 @@ fn a_missing_file_is_told(rt: HostRuntime) -> Result<(), Fail> {
     )
 }
 
-/// The sum is run, and a stream takes no more after so many bytes.
+/// The program of the cell is run, and a stream takes no more after some bytes.
 fn expect_cut(
     rt: &impl Abort,
     alloc: Global,
@@ -472,7 +472,7 @@ fn expect_cut(
     wanted: (&[u8], &[u8]),
 ) -> Result<(), Fail> {
     let words = words_of(alloc, &[b"exec", b"a.cc"])?;
-    let mut files = files_of(alloc, SUM)?;
+    let mut files = files_of(alloc, CELL)?;
     let (out, diag) = streams;
     let status = agxx(alloc, &words, &mut files, out, diag);
     assert_eq!(rt; status, Status::WriteFault);
@@ -488,9 +488,9 @@ fn a_stream_that_fails_is_told(rt: HostRuntime) -> Result<(), Fail> {
     out.take_at_most(1);
     out.fail_write(2)?;
     let mut diag = MemSink::new(alloc, 100)?;
-    expect_cut(&rt, alloc, (&mut out, &mut diag), (b"5", b""))?;
+    expect_cut(&rt, alloc, (&mut out, &mut diag), (b"7", b""))?;
     let mut out = MemSink::new(alloc, 100)?;
     out.take_at_most(1);
     let mut diag = MemSink::new(alloc, 3)?;
-    expect_cut(&rt, alloc, (&mut out, &mut diag), (b"5\n", b"end"))
+    expect_cut(&rt, alloc, (&mut out, &mut diag), (b"7\n", b"end"))
 }

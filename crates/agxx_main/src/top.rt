@@ -3,7 +3,7 @@
 ghost use Rattle.std.specs.Prelude.{◌≡◌, ◌≤◌, IfOk, OnErr};
 ghost use Rattle.agxx_base.specs.Causes.{Rose};
 ghost use Rattle.agxx_main.specs.Outcome.{Ends, Gets, GivesUp};
-ghost use Rattle.agxx_main.specs.Laws.{HasOneAnswer, UsageHasAnswer, CommandHasAnswer};
+ghost use Rattle.agxx_main.specs.Laws.{HasOneAnswer, UsageHasAnswer, CommandHasAnswer, DueIsAnswer};
 
 use crate::answer::Answer;
 use crate::commands::{exec, exec_plan, source};
@@ -59,9 +59,12 @@ pub fn agxx<F: Files, O: Sink, E: Sink>(
     }
 }
 
-/// The answer for words and files is one, and there is one for all words. The function does nothing: it carries the law.
+/// There is an answer for all words and files, and one alone, but for whether and where a file that is no program within the
+/// limits is told to be too deep. It is what `agxx` answers where files are told and no read or write fails. The function
+/// does nothing: it carries the laws.
 pub fn answers_are_determined()
     ensures one { HasOneAnswer }
     ensures usage { UsageHasAnswer }
     ensures command { CommandHasAnswer }
+    ensures due { DueIsAnswer }
 {}

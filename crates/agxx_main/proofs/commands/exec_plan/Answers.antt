@@ -4,7 +4,7 @@ use Rattle.agxx_main.proofs.commands.exec_plan.Goals as goal
 
 pub returns-in-Closed-clause-due : goal.returns-in-Closed-clause-due
 returns-in-Closed-clause-due g c =
-    exec-plan-closed (g.F.Files.listed c.args.files.now) (g.F.Files.faults c.args.files.now) (g.F.Files.faults c.open.new.files) c.args.file.now c.args.plan.now c.in-Closed.answer (rw c.in-Closed.is at c.in_ok-text.ensures.opening)
+    exec-plan-closed (g.F.Files.listed c.args.files.now) (g.F.Files.faults c.args.files.now) (g.F.Files.faults c.open.new.files) c.args.file.now c.args.plan.now c.in-Closed.answer c.open.ensures.later (rw c.in-Closed.is at c.in_ok-text.ensures.opening)
 
 pub returns-in-Text-2-clause-due : goal.returns-in-Text-2-clause-due
 returns-in-Text-2-clause-due g c =

@@ -23,7 +23,7 @@ returns-in-Some-ExecPlan-clause-ends g c =
     let plan : List ℕ = c.in-Some-ExecPlan.plan.now in
     let m : MeansExecPlan c.args.words.now file plan = rw c.in-Some-ExecPlan.field-0-is at c.in-Some-ExecPlan.ensures in
     ends-by (IsExecPlanDue (g.F.Files.listed c.args.files.now) (g.F.Files.faults c.args.files.now) (g.F.Files.faults c.exec_plan.new.files) file plan) c.args.words.now (g.F.Files.listed c.args.files.now) _ _ _ _ _ _ _ _ c.exec_plan.result c.deliver-in-Some-ExecPlan.result
-    (λ a d. exec_plan file plan m d) (some-exec-plan-due (g.F.Files.listed c.args.files.now) (g.F.Files.faults c.args.files.now) (g.F.Files.faults c.exec_plan.new.files) file plan)
+    (λ a d. exec_plan file plan m d) (some-exec-plan-due (g.F.Files.listed c.args.files.now) (g.F.Files.faults c.args.files.now) (g.F.Files.faults c.exec_plan.new.files) file plan c.exec_plan.ensures.later)
     c.exec_plan.ensures.due c.deliver-in-Some-ExecPlan.ensures.given c.deliver-in-Some-ExecPlan.ensures.memory
 
 pub returns-in-Some-Source-clause-ends : goal.returns-in-Some-Source-clause-ends
@@ -32,5 +32,5 @@ returns-in-Some-Source-clause-ends g c =
     let file : List ℕ = c.in-Some-Source.file.now in
     let m : MeansSource c.args.words.now plan file = rw c.in-Some-Source.field-0-is at c.in-Some-Source.ensures in
     ends-by (IsSourceDue (g.F.Files.listed c.args.files.now) (g.F.Files.faults c.args.files.now) (g.F.Files.faults c.source.new.files) plan file) c.args.words.now (g.F.Files.listed c.args.files.now) _ _ _ _ _ _ _ _ c.source.result c.deliver-in-Some-Source.result
-    (λ a d. source plan file m d) (some-source-due (g.F.Files.listed c.args.files.now) (g.F.Files.faults c.args.files.now) (g.F.Files.faults c.source.new.files) plan file)
+    (λ a d. source plan file m d) (some-source-due (g.F.Files.listed c.args.files.now) (g.F.Files.faults c.args.files.now) (g.F.Files.faults c.source.new.files) plan file c.source.ensures.later)
     c.source.ensures.due c.deliver-in-Some-Source.ensures.given c.deliver-in-Some-Source.ensures.memory
