@@ -1,4 +1,6 @@
 pub mod Interning
+pub mod Leasts
+pub mod Order
 pub mod Pieces
 pub mod Readings
 pub mod Sinks

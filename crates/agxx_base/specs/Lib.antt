@@ -6,7 +6,9 @@ pub mod MemFiles
 pub mod MemSink
 pub mod Names
 pub mod Pieces
+pub mod Refusals
 pub mod Rules
 pub mod Sink
+pub mod Sizes
 pub mod Status
 pub mod Vocabulary

@@ -1,11 +1,12 @@
 //! The rules by which an input is refused.
 
 ghost use Rattle.std.specs.Prelude.{◌≡◌};
+ghost use Rattle.agxx_base.specs.Refusals.{rank};
 ghost use Rattle.agxx_base.specs.Rules.{code_of, message_of};
 
-/// A rule that an input may violate. The rules stand in the order in which they are compared. A rule's letter tells its subject: `S` sizes of
-/// files, `F` plans, `L` tokens, `G` grammar, `N` names and types, `A` aspects, `P` protection, `W` weaving; `U` is
-/// for forms that are not built yet.
+/// A rule that an input may violate. The rules stand in the order in which they are compared. A rule's letter tells
+/// its subject: `S` sizes of files, `F` plans, `L` tokens, `G` grammar, `N` names and types, `A` aspects,
+/// `P` protection, `W` weaving; `U` is for forms that are not built yet.
 #[derive(Clone, Copy, Debug, PartialEq, Eq)]
 pub enum Rule {
     /// File too large.
@@ -93,6 +94,55 @@ pub enum Rule {
 }
 
 impl Rule {
+    /// The rule's place among all, by which rules at one place are compared.
+    pub fn rank(self) -> u32
+        ensures { result ≡ rank self }
+    {
+        match self {
+            Rule::S1 => 1,
+            Rule::F1 => 2,
+            Rule::F2 => 3,
+            Rule::F3 => 4,
+            Rule::F4 => 5,
+            Rule::F5 => 6,
+            Rule::L1 => 7,
+            Rule::L2 => 8,
+            Rule::L3 => 9,
+            Rule::L4 => 10,
+            Rule::L5 => 11,
+            Rule::G1 => 12,
+            Rule::G2 => 13,
+            Rule::A3 => 14,
+            Rule::N1 => 15,
+            Rule::N2 => 16,
+            Rule::N3 => 17,
+            Rule::N4 => 18,
+            Rule::N5 => 19,
+            Rule::N6 => 20,
+            Rule::N7 => 21,
+            Rule::N8 => 22,
+            Rule::N9 => 23,
+            Rule::N10 => 24,
+            Rule::A1 => 25,
+            Rule::A2 => 26,
+            Rule::A5 => 27,
+            Rule::A7 => 28,
+            Rule::A8 => 29,
+            Rule::A9 => 30,
+            Rule::A4 => 31,
+            Rule::A6 => 32,
+            Rule::A10 => 33,
+            Rule::P1 => 34,
+            Rule::P2 => 35,
+            Rule::P3 => 36,
+            Rule::P4 => 37,
+            Rule::P5 => 38,
+            Rule::W2 => 39,
+            Rule::W1 => 40,
+            Rule::U1 => 41,
+        }
+    }
+
     /// The rule's name, as diagnostics print it.
     pub fn code(self) -> &'static str
         ensures { result.now ≡ code_of self }
