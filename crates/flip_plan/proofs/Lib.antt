@@ -2,3 +2,4 @@ pub mod Parts
 pub mod Items
 pub mod Sums
 pub mod Digits
+pub mod Rooms

@@ -12,6 +12,7 @@ use agxx_base::{Fault, LARGEST_TEXT, Memory, Text};
 use std::alloc::Global;
 
 /// The plan of a text without violations.
+#[tactic(auto, using(crate::proofs::Rooms::room_for_line))]
 fn plan_in(alloc: Global, text: &[u8]) -> Result<Plan, Memory>
     requires { length text.now ≤ LARGEST_TEXT }
     ensures { IfOk result (λ plan. plan ≡ plan_of text.now) }
