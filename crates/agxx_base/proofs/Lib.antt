@@ -1,5 +1,6 @@
 pub mod Interning
 pub mod Leasts
+pub mod Lists
 pub mod Order
 pub mod Pieces
 pub mod Readings

@@ -1,6 +1,5 @@
 pub mod Parts
-pub mod Order
-pub mod Leasts
 pub mod Items
 pub mod Sums
 pub mod Digits
+pub mod Rooms

@@ -1,5 +1,5 @@
 -- The plan that a text is.
-use Rattle.std.specs.Prelude.{ℕ, ◌+◌, ◌==◌, if◌then◌else◌, List, [], ◌∷◌, ◌++◌, length, Option, Some, None}
+use Rattle.std.specs.Prelude.{ℕ, ◌+◌, ◌*◌, ◌^◌, ◌<◌, ◌==◌, if◌then◌else◌, List, [], ◌∷◌, ◌++◌, length, Option, Some, None}
 use Rattle.flip_plan.specs.declared.line.LineKind.{LineKind}
 use Rattle.flip_plan.specs.declared.line.LineKind.TheVariants as kind
 use Rattle.flip_plan.specs.declared.numbers.Item.{Item}
@@ -50,3 +50,20 @@ with_cycle plan = record plan { cycle = cycle_or_default plan.cycle }
 -- the plan that a text without violations is
 abbrev pub plan_of : List ℕ → PlanMeaning
 plan_of text = with_cycle (with_lines nothing_planned (lines_of 0 text))
+
+-- ---- what lines give at most
+
+-- how many words lines have
+abbrev pub words_in : List Line → ℕ
+words_in [] = 0
+words_in (line ∷ lines) = length line.words + words_in lines
+
+-- the turns can be counted in 64 bits, also with those of so many items more
+abbrev pub HasRoom : List Run → ℕ → Type 0
+HasRoom runs items = total runs + 2 ^ 32 * items < 2 ^ 64
+
+-- so can the turns and those of the cycle with what lines give, and the flips in 32 bits
+pub record HasRoomFor (plan : PlanMeaning) (lines : List Line) : Type 0 where
+  pub turns : HasRoom plan.turns (words_in lines)
+  pub cycle : HasRoom plan.cycle (words_in lines)
+  pub flips : length plan.flips + length lines < 2 ^ 32

@@ -1,6 +1,6 @@
 //! What lines give to a plan.
 
-ghost use Rattle.std.specs.Prelude.{◌≡◌, ◌+◌, ◌∷◌, [], ◌++◌, length, IfOk, OnOk};
+ghost use Rattle.std.specs.Prelude.{◌≡◌, ◌<◌, ◌+◌, ◌^◌, ◌∷◌, [], ◌++◌, length, IfOk, OnOk};
 ghost use Rattle.flip_plan.specs.Plans as plans;
 ghost use Rattle.flip_plan.specs.Reading as spec;
 
@@ -12,6 +12,7 @@ use agxx_base::{ListOf, Memory, ObjectId};
 use std::alloc::Global;
 
 fn add_item(runs: &mut Runs, item: Option<Item>) -> Result<(), Memory>
+    requires { spec.HasRoom runs.old 1 }
     ensures { OnOk result (runs.new ≡ spec.with_item runs.old item) }
 {
     match item {
@@ -22,6 +23,7 @@ fn add_item(runs: &mut Runs, item: Option<Item>) -> Result<(), Memory>
 
 /// Appends the turns of items.
 pub(crate) fn add_items(runs: &mut Runs, words: &[Word]) -> Result<(), Memory>
+    requires { spec.HasRoom runs.old (length words.now) }
     ensures { OnOk result (runs.new ≡ spec.with_items runs.old words.now) }
 {
     for word in words {
@@ -42,27 +44,17 @@ fn flip_of(number: u32, words: &[Word]) -> PlannedFlip
     }
 }
 
-fn one_more(count: usize) -> Result<u32, Memory>
-    ensures { IfOk result (λ n. n ≡ count + 1) }
-{
-    let Ok(count) = u32::try_from(count) else {
-        return Err(Memory);
-    };
-    match count.checked_add(1) {
-        None => Err(Memory),
-        Some(n) => Ok(n),
-    }
-}
-
 /// Appends the flip of a line.
 pub(crate) fn add_flip(flips: &mut ListOf<PlannedFlip>, words: &[Word]) -> Result<(), Memory>
+    requires { length flips.old + 1 < 2 ^ 32 }
     ensures { OnOk result (flips.new ≡ flips.old ++ spec.flip_of (length flips.old + 1) words.now ∷ []) }
 {
-    let number = one_more(flips.len())?;
+    let number = flips.len() as u32 + 1;
     flips.push(flip_of(number, words))
 }
 
 fn one_each(alloc: Global, threads: &[u32]) -> Result<Runs, Memory>
+    requires { length threads.now < 2 ^ 32 }
     ensures { IfOk result (λ runs. runs ≡ plans.one_each threads.now) }
 {
     let mut runs = Runs::new(alloc);

@@ -1,6 +1,6 @@
 //! Plans.
 
-ghost use Rattle.std.specs.Prelude.{◌≡◌, IfOk, OnOk};
+ghost use Rattle.std.specs.Prelude.{◌≡◌, ◌∷◌, [], IfOk, OnOk};
 ghost use Rattle.flip_plan.specs.Plans as spec;
 ghost use Rattle.flip_plan.specs.Plans.{turn_of};
 ghost use Rattle.flip_plan.specs.Reading as reading;
@@ -58,8 +58,9 @@ impl Plan {
     }
 
     /// Adds what a line gives.
-    #[tactic(auto, unfolding(crate::specs::Reading::with_line))]
+    #[tactic(auto, using(crate::proofs::Rooms::behind_few), unfolding(crate::specs::Reading::with_line))]
     pub(crate) fn add_line(&mut self, line: &Line) -> Result<(), Memory>
+        requires { reading.HasRoomFor self.old (line.now ∷ []) }
         ensures { OnOk result (self.new ≡ reading.with_line self.old line.now) }
     {
         match line.kind() {
@@ -91,7 +92,8 @@ impl Plan {
         self.limit
     }
 
-    /// The thread whose turn it is. Turns count from 0. It takes no memory, and time logarithmic in the number of items.
+    /// The thread whose turn it is. Turns count from 0. It takes no memory, and time logarithmic in the number of
+    /// items.
     pub fn turn(&self, index: u64) -> u32
         ensures { result ≡ turn_of self.now index }
     {

@@ -1,6 +1,7 @@
 //! Turns as runs of one thread each.
 
-ghost use Rattle.std.specs.Prelude.{◌≡◌, true, false, [], ◌∷◌, ◌++◌, nat_le, option_map, slice_get, OnOk};
+ghost use Rattle.std.specs.Prelude.{◌≡◌, ◌<◌, ◌+◌, ◌^◌, true, false, [], ◌∷◌, ◌++◌};
+ghost use Rattle.std.specs.Prelude.{nat_le, option_map, slice_get, OnOk};
 ghost use Rattle.std.specs.List.Sorted.{IsNonDecreasingBy, IsPartitionPoint};
 ghost use Rattle.flip_plan.specs.Plans as spec;
 
@@ -38,7 +39,8 @@ impl Model for Runs {
 /// How many runs end up to this turn. Their ends rise.
 fn ended_by(steps: &[Step], index: u64) -> usize
     requires { IsNonDecreasingBy (λ step. step.end) steps.now }
-    ensures { IsPartitionPoint (λ step. nat_le step.end index ≡ true) (λ step. nat_le step.end index ≡ false) steps.now result }
+    ensures { IsPartitionPoint (λ step. nat_le step.end index ≡ true)
+        (λ step. nat_le step.end index ≡ false) steps.now result }
 {
     steps.partition_point(|step| step.end <= index)
 }
@@ -63,14 +65,13 @@ impl Runs {
         }
     }
 
-    /// Appends turns of a thread, where all turns can be counted in 64 bits.
-    #[tactic(auto, using(crate::proofs::Sums::sums_push, crate::proofs::Sums::runs_push))]
+    /// Appends turns of a thread.
+    #[tactic(auto, using(crate::proofs::Sums::runs_push, crate::proofs::Sums::total_is))]
     pub(crate) fn push(&mut self, thread: u32, count: u32) -> Result<(), Memory>
+        requires { spec.total self.old + count < 2 ^ 64 }
         ensures { OnOk result (self.new ≡ self.old ++ (record { thread = thread; count = count }) ∷ []) }
     {
-        let Some(end) = self.total.checked_add(count as u64) else {
-            return Err(Memory);
-        };
+        let end = self.total + count as u64;
         self.steps.push(Step { thread, count, end })?;
         self.total = end;
         Ok(())
