@@ -1,21 +1,16 @@
 -- The nodes of a program are counted by a fold.
-use Rattle.std.proofs.Common.{◌≡◌, ℕ, ◌+◌, refl, arith, List, [], ◌∷◌, Option, Some, None}
+use Rattle.std.proofs.Common.{◌≡◌, ℕ, refl, arith, List, [], ◌∷◌, Option, Some, None}
 use Rattle.std.specs.Prelude.{sum_by}
 use Rattle.std.proofs.lemmas.List.Sums.{sum_by-cons}
 use Rattle.agxx_base.specs.declared.ids.NameId.{NameId}
 use Rattle.cxx_tree.specs.declared.node.Placed.{Placed}
-use Rattle.cxx_tree.specs.declared.expr.Ref.{Ref}
 use Rattle.cxx_tree.specs.declared.expr.Base.{Base}
 use Rattle.cxx_tree.specs.declared.expr.Base.TheVariants as base_of
-use Rattle.cxx_tree.specs.declared.expr.Selector.{Selector}
 use Rattle.cxx_tree.specs.declared.expr.Left.{Left}
 use Rattle.cxx_tree.specs.declared.expr.Left.TheVariants as left_of
 use Rattle.cxx_tree.specs.declared.expr.Callee.{Callee}
 use Rattle.cxx_tree.specs.declared.expr.Callee.TheVariants as callee_of
-use Rattle.cxx_tree.specs.declared.stmt.Bump.{Bump}
 use Rattle.cxx_tree.specs.declared.program.Param.{Param}
-use Rattle.cxx_tree.specs.declared.program.Proto.{Proto}
-use Rattle.cxx_tree.specs.declared.program.Variable.{Variable}
 use Rattle.cxx_tree.specs.ExprTree as e
 use Rattle.cxx_tree.specs.StmtTree as s
 use Rattle.cxx_tree.specs.ProgramTree as p

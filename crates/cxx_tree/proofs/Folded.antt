@@ -1,6 +1,5 @@
 -- The fold of a mapped tree, and of parts that follow each other.
 use Rattle.std.proofs.Common.{◌≡◌, refl, sym, ap, ◌∙◌, List, [], ◌∷◌, ◌++◌, map, Option, Some, None, option_map}
-use Rattle.cxx_tree.specs.declared.expr.Ref.{Ref}
 use Rattle.cxx_tree.specs.declared.expr.Base.{Base}
 use Rattle.cxx_tree.specs.declared.expr.Base.TheVariants as base_of
 use Rattle.cxx_tree.specs.declared.expr.Selector.{Selector}
@@ -8,8 +7,6 @@ use Rattle.cxx_tree.specs.declared.expr.Left.{Left}
 use Rattle.cxx_tree.specs.declared.expr.Left.TheVariants as left_of
 use Rattle.cxx_tree.specs.declared.expr.Callee.{Callee}
 use Rattle.cxx_tree.specs.declared.expr.Callee.TheVariants as callee_of
-use Rattle.cxx_tree.specs.declared.stmt.Bump.{Bump}
-use Rattle.cxx_tree.specs.declared.program.Param.{Param}
 use Rattle.cxx_tree.specs.declared.program.Proto.{Proto}
 use Rattle.cxx_tree.specs.declared.program.Variable.{Variable}
 use Rattle.cxx_tree.specs.ExprTree as e

@@ -12,10 +12,7 @@ use Rattle.cxx_tree.specs.declared.expr.Left.{Left}
 use Rattle.cxx_tree.specs.declared.expr.Left.TheVariants as left_of
 use Rattle.cxx_tree.specs.declared.expr.Callee.{Callee}
 use Rattle.cxx_tree.specs.declared.expr.Callee.TheVariants as callee_of
-use Rattle.cxx_tree.specs.declared.stmt.Bump.{Bump}
 use Rattle.cxx_tree.specs.declared.program.Param.{Param}
-use Rattle.cxx_tree.specs.declared.program.Proto.{Proto}
-use Rattle.cxx_tree.specs.declared.program.Variable.{Variable}
 use Rattle.cxx_tree.specs.ExprTree as e
 use Rattle.cxx_tree.specs.StmtTree as s
 use Rattle.cxx_tree.specs.ProgramTree as p
