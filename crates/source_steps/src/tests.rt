@@ -1,11 +1,11 @@
 ghost use Rattle.std.specs.Prelude.{◌≡◌, []};
 
-use crate::MapHeap;
+use crate::MapWords;
 use agxx_base::{ClassId, Memory, ObjectId};
 use std::alloc::Global;
 use std::process::Abort;
 use std::test::Fail;
-use step_world::{Change, Heap, Lock, World};
+use step_world::{Change, Heap, Lock, Objects, World};
 
 const FIRST: ObjectId = ObjectId(0);
 
@@ -44,6 +44,6 @@ fn walk<H: Heap>(rt: &impl Abort, alloc: Global, heap: H) -> Result<(), Memory>
 
 #[test]
 fn objects_are_made_and_killed(rt: HostRuntime) -> Result<(), Fail> {
-    walk(&rt, rt.alloc(), MapHeap::new(rt.alloc()))?;
+    walk(&rt, rt.alloc(), Objects::<MapWords>::new(rt.alloc()))?;
     Ok(())
 }

@@ -5,9 +5,14 @@
 mod change;
 mod entries;
 mod heap;
+mod object;
+mod objects;
+mod words;
 mod world;
 
 pub use change::{Change, Lock};
 pub use entries::Entries;
 pub use heap::{Heap, HeapError, OBJECT_LIMIT};
+pub use objects::Objects;
+pub use words::Words;
 pub use world::World;

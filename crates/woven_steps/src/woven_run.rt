@@ -8,7 +8,7 @@ ghost use Rattle.plan_runs.specs.Runs.{planned};
 ghost use Rattle.step_machine.specs.Machine.{next};
 ghost use Rattle.step_machine.specs.Start.{start};
 
-use crate::WordHeap;
+use crate::ListWords;
 use agxx_base::{Memory, Sink};
 use flip_plan::Plan;
 use plan_runs::{Report, RunError, Watch, run_plan, write_output};
@@ -17,11 +17,12 @@ use std::marker::Model;
 use step_engine::Engine;
 use step_machine::{State, StepKind};
 use step_setting::Setting;
+use step_world::Objects;
 
 /// A run of a woven program, whose objects are lists of words.
 #[derive(Drop)]
 pub struct WovenRun<'p> {
-    engine: Engine<'p, WordHeap>,
+    engine: Engine<'p, Objects<ListWords>>,
 }
 
 impl<'p> Model for WovenRun<'p> {
@@ -41,7 +42,7 @@ impl<'p> WovenRun<'p> {
     pub fn start(alloc: Global, setting: &'p Setting<'p>) -> Result<WovenRun<'p>, Memory>
         ensures { IfOk result (λ run. run ≡ start setting.now) }
     {
-        let engine = Engine::start(alloc, setting, WordHeap::new(alloc))?;
+        let engine = Engine::start(alloc, setting, Objects::new(alloc))?;
         Ok(WovenRun { engine })
     }
 
