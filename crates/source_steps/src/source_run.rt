@@ -75,7 +75,8 @@ impl<'p> SourceRun<'p> {
         requires begun { self.old ≡ start self.old.setting }
         ensures machine { OnOk result (self.new ≡ (unflipped plan.now self.old).0) }
         ensures report { IfOk result (λ report. report ≡ report_of (unflipped plan.now self.old) 0) }
-        ensures output { WritesOutput (O.taken sink.old) (O.taken sink.new) (unflipped plan.now self.old).0.world.output (O.faults sink.old) (O.faults sink.new) result }
+        ensures output { WritesOutput (O.taken sink.old) (O.taken sink.new)
+            (unflipped plan.now self.old).0.world.output (O.faults sink.old) (O.faults sink.new) result }
     {
         let Ok(report) = run_unflipped(&mut self.engine, plan) else {
             return Err(RunError::Memory);

@@ -12,7 +12,7 @@ mod world;
 
 pub use change::{Change, Lock};
 pub use entries::Entries;
-pub use heap::{Heap, HeapError, OBJECT_LIMIT};
+pub use heap::{Heap, HeapError};
 pub use objects::Objects;
 pub use words::Words;
 pub use world::World;

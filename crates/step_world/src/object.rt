@@ -24,7 +24,12 @@ impl<W: Words> Model for StoredObject<W> {
 
     ghost Value = { Object };
 
-    ghost view = { λ o. record { class = o.class; live = o.live; words = W.bits o.words; holders = o.holders } };
+    ghost view = { λ o. record {
+      class = o.class;
+      live = o.live;
+      words = W.bits o.words;
+      holders = o.holders;
+    } };
 }
 
 impl<W: Words> StoredObject<W> {

@@ -4,10 +4,10 @@ ghost use Rattle.std.specs.Prelude.{◌≡◌, ◌++◌, [], ◌∷◌, slice_ge
 ghost use Rattle.step_machine.specs.World.{new_object};
 ghost use Rattle.step_world.specs.Objects as in_heap;
 
-use crate::heap::{Heap, HeapError, OBJECT_LIMIT};
+use crate::heap::{Heap, HeapError};
 use crate::object::StoredObject;
 use crate::words::Words;
-use agxx_base::{ClassId, Memory, ObjectId};
+use agxx_base::{ClassId, Memory, OBJECT_LIMIT, ObjectId};
 use std::alloc::Global;
 use std::marker::Model;
 

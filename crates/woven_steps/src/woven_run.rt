@@ -82,9 +82,11 @@ impl<'p> WovenRun<'p> {
         requires left { IsLeft plan.now.flips 0 watch.old.left }
         requires new { watch.old.erased ≡ [] }
         ensures machine { OnOk result (self.new ≡ (planned plan.now self.old).ran.0) }
-        ensures report { IfOk result (λ report. report ≡ report_of (planned plan.now self.old).ran (planned plan.now self.old).flips) }
+        ensures report { IfOk result (λ report. report ≡
+            report_of (planned plan.now self.old).ran (planned plan.now self.old).flips) }
         ensures erased { OnOk result (watch.new.erased ≡ (planned plan.now self.old).erased) }
-        ensures output { WritesOutput (O.taken sink.old) (O.taken sink.new) (planned plan.now self.old).ran.0.world.output (O.faults sink.old) (O.faults sink.new) result }
+        ensures output { WritesOutput (O.taken sink.old) (O.taken sink.new)
+            (planned plan.now self.old).ran.0.world.output (O.faults sink.old) (O.faults sink.new) result }
     {
         let Ok(report) = run_plan(&mut self.engine, plan, watch) else {
             return Err(RunError::Memory);
