@@ -6,6 +6,3 @@ mod source_run;
 
 pub use map_words::MapWords;
 pub use source_run::SourceRun;
-
-#[cfg(test)]
-mod tests;

@@ -2,7 +2,7 @@
 
 use agxx_base::Memory;
 use std::alloc::Global;
-use step_world::{Entries, Words};
+use step_world::{Entries, WordStore};
 
 /// The words of an object, each found by its number. A word to which nothing was stored has no entry, and is 0.
 #[derive(Drop)]
@@ -11,7 +11,7 @@ pub struct MapWords {
     words: Entries<u64>,
 }
 
-impl Words for MapWords {
+impl WordStore for MapWords {
     ghost use Rattle.source_steps.specs.Words.{words_of};
 
     ghost bits = { λ map. words_of map.count map.words };

@@ -7,12 +7,12 @@ mod entries;
 mod heap;
 mod object;
 mod objects;
-mod words;
+mod word_store;
 mod world;
 
 pub use change::{Change, Lock};
 pub use entries::Entries;
 pub use heap::{Heap, HeapError};
 pub use objects::Objects;
-pub use words::Words;
+pub use word_store::WordStore;
 pub use world::World;

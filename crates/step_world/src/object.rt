@@ -5,21 +5,21 @@ ghost use Rattle.step_machine.specs.Entries.{entry};
 ghost use Rattle.step_machine.specs.World.{new_object, killed, with_word, with_holder, holder_in};
 
 use crate::entries::Entries;
-use crate::words::Words;
+use crate::word_store::WordStore;
 use agxx_base::{ClassId, Memory};
 use std::alloc::Global;
 use std::marker::Model;
 
 /// An object, with its words in a store.
 #[derive(Drop)]
-pub(crate) struct StoredObject<W: Words> {
+pub(crate) struct StoredObject<W: WordStore> {
     class: ClassId,
     live: bool,
     words: W,
     holders: Entries<Option<u32>>,
 }
 
-impl<W: Words> Model for StoredObject<W> {
+impl<W: WordStore> Model for StoredObject<W> {
     ghost use Rattle.step_machine.specs.World.{Object};
 
     ghost Value = { Object };
@@ -32,7 +32,7 @@ impl<W: Words> Model for StoredObject<W> {
     } };
 }
 
-impl<W: Words> StoredObject<W> {
+impl<W: WordStore> StoredObject<W> {
     pub(crate) fn new(alloc: Global, class: ClassId, count: u32) -> Result<StoredObject<W>, Memory>
         ensures { IfOk result (λ object. object ≡ new_object class count) }
     {

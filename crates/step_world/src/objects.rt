@@ -6,7 +6,7 @@ ghost use Rattle.step_world.specs.Objects as in_heap;
 
 use crate::heap::{Heap, HeapError};
 use crate::object::StoredObject;
-use crate::words::Words;
+use crate::word_store::WordStore;
 use agxx_base::{ClassId, Memory, OBJECT_LIMIT, ObjectId};
 use std::alloc::Global;
 use std::marker::Model;
@@ -14,12 +14,12 @@ use std::marker::Model;
 /// A heap that keeps the words of each object in a store. Each of its operations takes the same time however many
 /// objects there are.
 #[derive(Drop)]
-pub struct Objects<W: Words> {
+pub struct Objects<W: WordStore> {
     alloc: Global,
     objects: Vec<StoredObject<W>>,
 }
 
-impl<W: Words> Model for Objects<W> {
+impl<W: WordStore> Model for Objects<W> {
     ghost use Rattle.std.specs.Prelude.{List};
     ghost use Rattle.step_machine.specs.World.{Object};
 
@@ -28,7 +28,7 @@ impl<W: Words> Model for Objects<W> {
     ghost view = { λ heap. heap.objects.items };
 }
 
-impl<W: Words> Objects<W> {
+impl<W: WordStore> Objects<W> {
     /// A heap with no objects, which takes no memory.
     pub fn new(alloc: Global) -> Objects<W>
         ensures { result ≡ [] }
@@ -57,7 +57,7 @@ impl<W: Words> Objects<W> {
     }
 }
 
-impl<W: Words> Heap for Objects<W> {
+impl<W: WordStore> Heap for Objects<W> {
     ghost objects = { λ heap. heap };
 
     fn create(&mut self, class: ClassId, words: u32) -> Result<ObjectId, HeapError> {

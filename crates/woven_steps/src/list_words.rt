@@ -3,7 +3,7 @@
 use agxx_base::Memory;
 use sqlite_items::Items;
 use std::alloc::Global;
-use step_world::Words;
+use step_world::WordStore;
 
 /// The words of an object, side by side.
 #[derive(Drop)]
@@ -11,7 +11,7 @@ pub struct ListWords {
     words: Items<u64>,
 }
 
-impl Words for ListWords {
+impl WordStore for ListWords {
     ghost bits = { λ list. list.words };
 
     fn zeros(alloc: Global, count: u32) -> Result<ListWords, Memory> {

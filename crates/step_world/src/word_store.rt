@@ -6,7 +6,7 @@ use agxx_base::Memory;
 use std::alloc::Global;
 
 /// The words of an object, by their numbers from 0 on.
-pub trait Words: Drop + Sized {
+pub trait WordStore: Drop + Sized {
     ghost use Rattle.std.specs.Prelude.{List, ℕ};
 
     /// The bits of each word.
