@@ -1,6 +1,6 @@
-//! Programs as a machine runs them: each name with its meaning, each operator with the types of its operands, and nothing
-//! of the text but the places that a stop tells. The forms stand in `specs`: `CoreExpr`, `CoreStmt` and `CoreProgram`;
-//! `Meanings`, `ElaboratedExpr`, `ElaboratedStmt` and `ElaboratedProgram` make them of trees.
+//! Programs as a machine runs them: each name with its meaning, each operator with the types of its operands, and
+//! nothing of the text but the places that a stop tells. The forms stand in `specs`: `CoreExpr`, `CoreStmt` and
+//! `CoreProgram`; `Meanings`, `ElaboratedExpr`, `ElaboratedStmt` and `ElaboratedProgram` make them of trees.
 #![tactic(auto)]
 
 mod expr;

@@ -1,7 +1,8 @@
 //! Classes, and the functions in them.
 
 ghost use Rattle.std.specs.Prelude.{◌≡◌, ◌∷◌, ◌++◌, [], length, map, suc, IfOk, OnOk};
-ghost use Rattle.cxx_tree.specs.ProgramTree.{function_tree, ctor_tree, dtor_tree, item_tree, class_tree, decl_tree};
+ghost use Rattle.cxx_tree.specs.ProgramTree.{function_tree, ctor_tree, dtor_tree};
+ghost use Rattle.cxx_tree.specs.ProgramTree.{item_tree, class_tree, decl_tree};
 ghost use Rattle.cxx_core.specs.ProgramView.{name_core, word_core, function_core, class_core};
 ghost use Rattle.cxx_core.specs.ElaboratedProgram as spec;
 ghost use Rattle.cxx_elaborate.specs.Added.{Adds};
@@ -34,7 +35,8 @@ fn next_class(classes: &Items<Class>) -> Result<ClassId, Memory>
 }
 
 fn add_mutex(item: &Item, mutexes: &mut Items<NameId>) -> Result<(), Memory>
-    ensures { OnOk result (map name_core mutexes.new ≡ map name_core mutexes.old ++ spec.mutexes (item_tree item.now ∷ [])) }
+    ensures { OnOk result (map name_core mutexes.new ≡
+        map name_core mutexes.old ++ spec.mutexes (item_tree item.now ∷ [])) }
 {
     match item {
         Item::Member(member) => match member.type_name.item {
@@ -55,7 +57,8 @@ impl<'a> Elaborator<'a> {
         function: &cxx_tree::Function,
         functions: &mut Items<Function>,
     ) -> Result<(), Memory>
-        ensures { OnOk result (Adds (map function_core functions.old) (map function_core functions.new) (λ rest. spec.core_function self.now (function_tree function.now) ∷ rest)) }
+        ensures { OnOk result (Adds (map function_core functions.old) (map function_core functions.new)
+            (λ rest. spec.core_function self.now (function_tree function.now) ∷ rest)) }
     {
         let number = next_function(functions)?;
         let made = self.function(number, function)?;
@@ -69,7 +72,8 @@ impl<'a> Elaborator<'a> {
         ctor: &Ctor,
         functions: &mut Items<Function>,
     ) -> Result<(), Memory>
-        ensures { OnOk result (Adds (map function_core functions.old) (map function_core functions.new) (λ rest. spec.core_ctor self.now base (ctor_tree ctor.now) ∷ rest)) }
+        ensures { OnOk result (Adds (map function_core functions.old) (map function_core functions.new)
+            (λ rest. spec.core_ctor self.now base (ctor_tree ctor.now) ∷ rest)) }
     {
         let number = next_function(functions)?;
         let made = self.ctor(number, base, ctor)?;
@@ -78,7 +82,8 @@ impl<'a> Elaborator<'a> {
     }
 
     fn add_dtor(&self, dtor: &Dtor, functions: &mut Items<Function>) -> Result<(), Memory>
-        ensures { OnOk result (Adds (map function_core functions.old) (map function_core functions.new) (λ rest. spec.core_dtor self.now (dtor_tree dtor.now) ∷ rest)) }
+        ensures { OnOk result (Adds (map function_core functions.old) (map function_core functions.new)
+            (λ rest. spec.core_dtor self.now (dtor_tree dtor.now) ∷ rest)) }
     {
         let number = next_function(functions)?;
         let made = self.dtor(number, dtor)?;
@@ -94,7 +99,8 @@ impl<'a> Elaborator<'a> {
         item: &Item,
         functions: &mut Items<Function>,
     ) -> Result<(), Memory>
-        ensures { OnOk result (Adds (map function_core functions.old) (map function_core functions.new) (spec.item_functions self.now base (item_tree item.now))) }
+        ensures { OnOk result (Adds (map function_core functions.old) (map function_core functions.new)
+            (spec.item_functions self.now base (item_tree item.now))) }
     {
         match item {
             Item::Label(_, _) => Ok(()),
@@ -112,7 +118,8 @@ impl<'a> Elaborator<'a> {
         items: &[Item],
         functions: &mut Items<Function>,
     ) -> Result<(), Memory>
-        ensures { OnOk result (Adds (map function_core functions.old) (map function_core functions.new) (spec.items_functions self.now base (map item_tree items.now))) }
+        ensures { OnOk result (Adds (map function_core functions.old) (map function_core functions.new)
+            (spec.items_functions self.now base (map item_tree items.now))) }
     {
         for item in items {
             self.add_item(base, item, functions)?;
@@ -121,7 +128,8 @@ impl<'a> Elaborator<'a> {
     }
 
     fn add_word(&self, item: &Item, words: &mut Items<Word>) -> Result<(), Memory>
-        ensures { OnOk result (map word_core words.new ≡ map word_core words.old ++ spec.words self.now.declared (item_tree item.now ∷ [])) }
+        ensures { OnOk result (map word_core words.new ≡
+            map word_core words.old ++ spec.words self.now.declared (item_tree item.now ∷ [])) }
     {
         match item {
             Item::Member(member) => match self.kind_named(member.type_name.item) {
@@ -137,7 +145,8 @@ impl<'a> Elaborator<'a> {
     }
 
     fn words(&self, items: &[Item]) -> Result<Items<Word>, Memory>
-        ensures { IfOk result (λ ws. map word_core ws ≡ spec.words self.now.declared (map item_tree items.now)) }
+        ensures { IfOk result (λ ws. map word_core ws ≡
+            spec.words self.now.declared (map item_tree items.now)) }
     {
         let mut words = Items::new(self.alloc);
         for item in items {
@@ -158,7 +167,8 @@ impl<'a> Elaborator<'a> {
 
     /// The class of a number.
     fn class(&self, number: ClassId, class: &cxx_tree::Class) -> Result<Class, Memory>
-        ensures { IfOk result (λ x. class_core x ≡ spec.core_class self.now.declared number (class_tree class.now)) }
+        ensures { IfOk result (λ x. class_core x ≡
+            spec.core_class self.now.declared number (class_tree class.now)) }
     {
         let items = class.items.as_slice();
         let words = self.words(items)?;
@@ -174,7 +184,8 @@ impl<'a> Elaborator<'a> {
     }
 
     fn add_class(&self, decl: &Decl, classes: &mut Items<Class>) -> Result<(), Memory>
-        ensures { OnOk result (map class_core classes.new ≡ map class_core classes.old ++ spec.decls_classes self.now.declared (length classes.old) (decl_tree decl.now ∷ [])) }
+        ensures { OnOk result (map class_core classes.new ≡ map class_core classes.old ++
+            spec.decls_classes self.now.declared (length classes.old) (decl_tree decl.now ∷ [])) }
     {
         match decl {
             Decl::Class(class) => {
@@ -189,7 +200,8 @@ impl<'a> Elaborator<'a> {
 
     /// The classes of a program, each at its number.
     pub(crate) fn classes(&self, decls: &[Decl]) -> Result<Items<Class>, Memory>
-        ensures { IfOk result (λ classes. map class_core classes ≡ spec.decls_classes self.now.declared 0 (map decl_tree decls.now)) }
+        ensures { IfOk result (λ classes. map class_core classes ≡
+            spec.decls_classes self.now.declared 0 (map decl_tree decls.now)) }
     {
         let mut classes = Items::new(self.alloc);
         for decl in decls {

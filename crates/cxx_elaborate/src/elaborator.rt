@@ -20,5 +20,10 @@ impl<'a> Model for Elaborator<'a> {
 
     ghost Value = { Within };
 
-    ghost view = { λ e. record { names = e.names.now; declared = e.declared.now; class = e.class; result = e.result } };
+    ghost view = { λ e. record {
+      names = e.names.now;
+      declared = e.declared.now;
+      class = e.class;
+      result = e.result;
+    } };
 }

@@ -84,7 +84,8 @@ fn joined(
     left: Expr,
     right: Expr,
 ) -> Result<Expr, Memory>
-    ensures { IfOk result (λ e. expr_core e ≡ spec.joined op.at op.item types.0 types.1 (expr_core left) (expr_core right)) }
+    ensures { IfOk result (λ e. expr_core e ≡
+        spec.joined op.at op.item types.0 types.1 (expr_core left) (expr_core right)) }
 {
     let (s, t) = types;
     let has_type = binary_type(op.item, s, t).is_some();
@@ -170,7 +171,9 @@ impl<'a> Elaborator<'a> {
         op: UnOp,
         operand: &cxx_tree::Expr,
     ) -> Result<Expr, Memory>
-        ensures { IfOk result (λ e. expr_core e ≡ spec.unary_as node.at op (addressed self.now scope.now (expr_tree operand.now)) (spec.core_expr self.now scope.now (expr_tree operand.now))) }
+        ensures { IfOk result (λ e. expr_core e ≡ spec.unary_as node.at op
+            (addressed self.now scope.now (expr_tree operand.now))
+            (spec.core_expr self.now scope.now (expr_tree operand.now))) }
     {
         match op {
             UnOp::AddressOf => Ok(address_as(node.at, self.addressed(scope, operand))),
@@ -189,7 +192,9 @@ impl<'a> Elaborator<'a> {
         type_name: TypeName,
         operand: &cxx_tree::Expr,
     ) -> Result<Expr, Memory>
-        ensures { IfOk result (λ e. expr_core e ≡ spec.cast_as at (meanings.kind_named self.now.declared type_name) (spec.core_expr self.now scope.now (expr_tree operand.now))) }
+        ensures { IfOk result (λ e. expr_core e ≡ spec.cast_as at
+            (meanings.kind_named self.now.declared type_name)
+            (spec.core_expr self.now scope.now (expr_tree operand.now))) }
     {
         let kind = self.kind_named(type_name);
         let operand = self.expr(scope, operand)?;
@@ -204,7 +209,8 @@ impl<'a> Elaborator<'a> {
         class: Option<ClassId>,
         arguments: &[cxx_tree::Expr],
     ) -> Result<Expr, Memory>
-        ensures { IfOk result (λ e. expr_core e ≡ spec.new_as at class (spec.core_exprs self.now scope.now (exprs_tree arguments.now))) }
+        ensures { IfOk result (λ e. expr_core e ≡
+            spec.new_as at class (spec.core_exprs self.now scope.now (exprs_tree arguments.now))) }
     {
         let arguments = self.exprs(scope, arguments)?;
         Ok(new_as(at, class, arguments))
@@ -252,7 +258,8 @@ impl<'a> Elaborator<'a> {
         scope: &Table<Thing>,
         exprs: &[cxx_tree::Expr],
     ) -> Result<Items<Expr>, Memory>
-        ensures { IfOk result (λ es. exprs_core es ≡ spec.core_exprs self.now scope.now (exprs_tree exprs.now)) }
+        ensures { IfOk result (λ es. exprs_core es ≡
+            spec.core_exprs self.now scope.now (exprs_tree exprs.now)) }
     {
         let mut made = Items::new(self.alloc);
         for expr in exprs {

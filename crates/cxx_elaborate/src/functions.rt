@@ -142,7 +142,8 @@ impl<'a> Elaborator<'a> {
         number: FnId,
         function: &cxx_tree::Function,
     ) -> Result<Function, Memory>
-        ensures { IfOk result (λ f. function_core f ≡ record (spec.core_function self.now (function_tree function.now)) { number = number.0 }) }
+        ensures { IfOk result (λ f. function_core f ≡
+            record (spec.core_function self.now (function_tree function.now)) { number = number.0 }) }
     {
         let result = self.type_named(function.result.item);
         let params = self.params(function.params.as_slice())?;
@@ -168,7 +169,8 @@ impl<'a> Elaborator<'a> {
         base: Option<Name>,
         inits: &[Init],
     ) -> Result<Items<Expr>, Memory>
-        ensures { IfOk result (λ es. exprs_core es ≡ spec.base_arguments self.now scope.now base (map init_tree inits.now)) }
+        ensures { IfOk result (λ es. exprs_core es ≡
+            spec.base_arguments self.now scope.now base (map init_tree inits.now)) }
     {
         for init in inits {
             if is_named(base, init.name.item) {
@@ -185,7 +187,8 @@ impl<'a> Elaborator<'a> {
         inits: &[Init],
         body: Items<Stmt>,
     ) -> Result<Items<Stmt>, Memory>
-        ensures { IfOk result (λ ss. stmts_core ss ≡ spec.others_wrong base (map init_tree inits.now) (stmts_core body)) }
+        ensures { IfOk result (λ ss. stmts_core ss ≡
+            spec.others_wrong base (map init_tree inits.now) (stmts_core body)) }
     {
         let mut stmts = Items::new(self.alloc);
         for init in inits {
@@ -204,7 +207,8 @@ impl<'a> Elaborator<'a> {
         base: Option<Name>,
         ctor: &Ctor,
     ) -> Result<Function, Memory>
-        ensures { IfOk result (λ f. function_core f ≡ record (spec.core_ctor self.now base (ctor_tree ctor.now)) { number = number.0 }) }
+        ensures { IfOk result (λ f. function_core f ≡
+            record (spec.core_ctor self.now base (ctor_tree ctor.now)) { number = number.0 }) }
     {
         let inits = ctor.inits.as_slice();
         let params = self.params(ctor.params.as_slice())?;
@@ -227,7 +231,8 @@ impl<'a> Elaborator<'a> {
 
     /// A destructor, with its number.
     pub(crate) fn dtor(&self, number: FnId, dtor: &Dtor) -> Result<Function, Memory>
-        ensures { IfOk result (λ f. function_core f ≡ record (spec.core_dtor self.now (dtor_tree dtor.now)) { number = number.0 }) }
+        ensures { IfOk result (λ f. function_core f ≡
+            record (spec.core_dtor self.now (dtor_tree dtor.now)) { number = number.0 }) }
     {
         let mut scope = Table::new(self.alloc);
         let body = self.block(&mut scope, &dtor.body)?;

@@ -103,7 +103,8 @@ fn object_as(at: Place, name: NameId, class: Option<ClassId>, arguments: Items<E
 
 impl<'a> Elaborator<'a> {
     fn object(&self, object: &Object) -> Result<Global, Memory>
-        ensures { IfOk result (λ g. global_core g ≡ spec.core_global self.now (tree.object (object_tree object.now))) }
+        ensures { IfOk result (λ g. global_core g ≡
+            spec.core_global self.now (tree.object (object_tree object.now))) }
     {
         let class = self.declared.class_named(object.class.item);
         let arguments = self.exprs(&Table::new(self.alloc), object.arguments.as_slice())?;
@@ -126,7 +127,8 @@ impl<'a> Elaborator<'a> {
     }
 
     fn add_global(&self, decl: &Decl, globals: &mut Items<Global>) -> Result<(), Memory>
-        ensures { OnOk result (map global_core globals.new ≡ map global_core globals.old ++ spec.decls_globals self.now (decl_tree decl.now ∷ [])) }
+        ensures { OnOk result (map global_core globals.new ≡
+            map global_core globals.old ++ spec.decls_globals self.now (decl_tree decl.now ∷ [])) }
     {
         match decl {
             Decl::Global(global) => {
@@ -140,7 +142,8 @@ impl<'a> Elaborator<'a> {
 
     /// The globals of a program, in order of declaration.
     pub(crate) fn globals(&self, decls: &[Decl]) -> Result<Items<Global>, Memory>
-        ensures { IfOk result (λ globals. map global_core globals ≡ spec.decls_globals self.now (map decl_tree decls.now)) }
+        ensures { IfOk result (λ globals. map global_core globals ≡
+            spec.decls_globals self.now (map decl_tree decls.now)) }
     {
         let mut globals = Items::new(self.alloc);
         for decl in decls {

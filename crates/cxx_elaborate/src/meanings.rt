@@ -154,7 +154,8 @@ impl<'a> Elaborator<'a> {
         name: NameId,
         found: Option<(ClassId, MemberInfo)>,
     ) -> Option<Left>
-        ensures { option_map left_core result ≡ spec.member_found self.now.declared at (object_core object) name.0 found }
+        ensures { option_map left_core result ≡
+            spec.member_found self.now.declared at (object_core object) name.0 found }
     {
         match found {
             None => None,
@@ -172,7 +173,8 @@ impl<'a> Elaborator<'a> {
     }
 
     fn member_in(&self, at: Place, name: NameId, object: Option<(Object, ClassId)>) -> Option<Left>
-        ensures { option_map left_core result ≡ spec.member_in self.now.declared at name.0 (option_map object_in object) }
+        ensures { option_map left_core result ≡
+            spec.member_in self.now.declared at name.0 (option_map object_in object) }
     {
         match object {
             None => None,
@@ -204,7 +206,8 @@ impl<'a> Elaborator<'a> {
         reference: Ref,
         found: Option<(Option<ClassId>, &Signature)>,
     ) -> Option<Callee>
-        ensures { option_map callee_core result ≡ spec.bare_callee self.now.declared at reference (option_map lent found.entry) }
+        ensures { option_map callee_core result ≡
+            spec.bare_callee self.now.declared at reference (option_map lent found.entry) }
     {
         match found {
             None => None,
@@ -227,7 +230,9 @@ impl<'a> Elaborator<'a> {
         selector: Selector,
         object: Option<(Object, ClassId)>,
     ) -> Option<Callee>
-        ensures { option_map callee_core result ≡ spec.method_in self.now.declared at selector.name.at selector.name.item.0 (option_map object_in object) }
+        ensures { option_map callee_core result ≡
+            spec.method_in self.now.declared at selector.name.at selector.name.item.0
+            (option_map object_in object) }
     {
         let Some((object, class)) = object else {
             return None;

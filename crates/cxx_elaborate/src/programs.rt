@@ -79,7 +79,8 @@ impl<'a> Elaborator<'a> {
         }
     }
 
-    /// Adds the functions of a declaration, where the next class has this number, and tells the number of the one after.
+    /// Adds the functions of a declaration, where the next class has this number, and tells the number of the one
+    /// after.
     #[tactic(auto, using(crate::proofs::Numbered::adds_nothing))]
     fn add_decl(
         &self,
@@ -87,7 +88,8 @@ impl<'a> Elaborator<'a> {
         decl: &Decl,
         functions: &mut Items<Function>,
     ) -> Result<u32, Memory>
-        ensures functions { OnOk result (Adds (map function_core functions.old) (map function_core functions.new) (spec.decl_functions self.now class (decl_tree decl.now))) }
+        ensures functions { OnOk result (Adds (map function_core functions.old) (map function_core functions.new)
+            (spec.decl_functions self.now class (decl_tree decl.now))) }
         ensures class { IfOk result (λ k. k ≡ spec.after_decl class (decl_tree decl.now)) }
     {
         match decl {
@@ -108,7 +110,8 @@ impl<'a> Elaborator<'a> {
 
     /// The functions of a program, each at its number.
     fn functions(&self, decls: &[Decl]) -> Result<Items<Function>, Memory>
-        ensures { IfOk result (λ functions. map function_core functions ≡ spec.numbered_from 0 (spec.decls_functions self.now 0 (map decl_tree decls.now))) }
+        ensures { IfOk result (λ functions. map function_core functions ≡
+            spec.numbered_from 0 (spec.decls_functions self.now 0 (map decl_tree decls.now))) }
     {
         let mut functions = Items::new(self.alloc);
         let mut class = 0;
@@ -119,16 +122,17 @@ impl<'a> Elaborator<'a> {
     }
 
     fn main(&self) -> Result<Option<FnId>, Memory>
-        ensures { IfOk result (λ main. option_map number_core main ≡ spec.number_by (free_signature self.now.declared (number_of self.now.names (codes "main")))) }
+        ensures { IfOk result (λ main. option_map number_core main ≡
+            spec.number_by (free_signature self.now.declared (number_of self.now.names (codes "main")))) }
     {
         let name = main_name(self.names)?;
         Ok(number_by(self.declared.free_function(name)))
     }
 }
 
-/// The core form of a program in normal form, where each name stands with its meaning and each operator with the types of
-/// its operands. Names have the texts that `names` tells, and `declared` is what the program declares. Without memory, and
-/// where a program would have more than 2^32 classes or functions, there is none.
+/// The core form of a program in normal form, where each name stands with its meaning and each operator with the
+/// types of its operands. Names have the texts that `names` tells, and `declared` is what the program declares.
+/// Without memory, and where a program would have more than 2^32 classes or functions, there is none.
 pub fn elaborate(
     alloc: Global,
     names: &Names,

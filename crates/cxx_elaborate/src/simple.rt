@@ -2,7 +2,8 @@
 
 ghost use Rattle.std.specs.Prelude.{◌≡◌, IfOk, OnOk, map, option_map};
 ghost use Rattle.cxx_tree.specs.ExprTree.{expr_tree, exprs_tree, call_tree};
-ghost use Rattle.cxx_tree.specs.StmtTree.{initial_tree, local_tree, simple_tree, printed_tree, thread_tree, start_tree};
+ghost use Rattle.cxx_tree.specs.StmtTree.{initial_tree, local_tree, simple_tree};
+ghost use Rattle.cxx_tree.specs.StmtTree.{printed_tree, thread_tree, start_tree};
 ghost use Rattle.cxx_core.specs.ExprView.{left_core, expr_core, exprs_core};
 ghost use Rattle.cxx_core.specs.StmtView.{source_core, printed_core, stmt_core, stmts_core};
 ghost use Rattle.cxx_core.specs.ElaboratedExpr.{core_expr};
@@ -155,7 +156,8 @@ impl<'a> Elaborator<'a> {
         scope: &Table<Thing>,
         initial: Option<&Initial>,
     ) -> Result<Option<Source>, Memory>
-        ensures { IfOk result (λ s. option_map source_core s ≡ spec.core_initial self.now scope.now (option_map (λ i. initial_tree i.now) initial.entry)) }
+        ensures { IfOk result (λ s. option_map source_core s ≡ spec.core_initial self.now scope.now
+            (option_map (λ i. initial_tree i.now) initial.entry)) }
     {
         match initial {
             None => Ok(None),
@@ -229,7 +231,8 @@ impl<'a> Elaborator<'a> {
 
     /// What may also stand in the head of a `for`.
     pub(crate) fn simple(&self, scope: &Table<Thing>, simple: &Simple) -> Result<Stmt, Memory>
-        ensures { IfOk result (λ s. stmt_core s ≡ spec.core_simple self.now scope.now (simple_tree simple.now)) }
+        ensures { IfOk result (λ s. stmt_core s ≡
+            spec.core_simple self.now scope.now (simple_tree simple.now)) }
     {
         match simple {
             Simple::Assign(assign) => {
@@ -248,7 +251,8 @@ impl<'a> Elaborator<'a> {
         scope: &Table<Thing>,
         start: Option<&Start>,
     ) -> Result<Items<Stmt>, Memory>
-        ensures { IfOk result (λ ss. stmts_core ss ≡ spec.core_start self.now scope.now (option_map (λ f. start_tree f.now) start.entry)) }
+        ensures { IfOk result (λ ss. stmts_core ss ≡
+            spec.core_start self.now scope.now (option_map (λ f. start_tree f.now) start.entry)) }
     {
         match start {
             None => Ok(Items::new(self.alloc)),
@@ -263,7 +267,8 @@ impl<'a> Elaborator<'a> {
         scope: &mut Table<Thing>,
         start: Option<&Start>,
     ) -> Result<(), Memory>
-        ensures { OnOk result (scope.new ≡ spec.scope_in_for self.now scope.old (option_map (λ f. start_tree f.now) start.entry)) }
+        ensures { OnOk result (scope.new ≡
+            spec.scope_in_for self.now scope.old (option_map (λ f. start_tree f.now) start.entry)) }
     {
         match start {
             Some(Start::Local(local)) => self.declare_local(scope, local),
@@ -277,7 +282,8 @@ impl<'a> Elaborator<'a> {
         scope: &Table<Thing>,
         condition: Option<&cxx_tree::Expr>,
     ) -> Result<Boxed<Expr>, Memory>
-        ensures { IfOk result (λ e. expr_core e ≡ spec.core_condition self.now scope.now (option_map (λ c. expr_tree c.now) condition.entry)) }
+        ensures { IfOk result (λ e. expr_core e ≡ spec.core_condition self.now scope.now
+            (option_map (λ c. expr_tree c.now) condition.entry)) }
     {
         match condition {
             None => Ok(Boxed::new(self.alloc, Expr::Number(flag(true)))?),
@@ -291,7 +297,8 @@ impl<'a> Elaborator<'a> {
         scope: &Table<Thing>,
         step: Option<&Simple>,
     ) -> Result<Items<Stmt>, Memory>
-        ensures { IfOk result (λ ss. stmts_core ss ≡ spec.core_step self.now scope.now (option_map (λ i. simple_tree i.now) step.entry)) }
+        ensures { IfOk result (λ ss. stmts_core ss ≡
+            spec.core_step self.now scope.now (option_map (λ i. simple_tree i.now) step.entry)) }
     {
         match step {
             None => Ok(Items::new(self.alloc)),
@@ -306,7 +313,8 @@ impl<'a> Elaborator<'a> {
     }
 
     fn printed(&self, scope: &Table<Thing>, printed: &cxx_tree::Printed) -> Result<Printed, Memory>
-        ensures { IfOk result (λ p. printed_core p ≡ spec.core_printed self.now scope.now (printed_tree printed.now)) }
+        ensures { IfOk result (λ p. printed_core p ≡
+            spec.core_printed self.now scope.now (printed_tree printed.now)) }
     {
         match printed {
             cxx_tree::Printed::Text(quoted) => Ok(Printed::Text(quoted.at, self.text(quoted)?)),
@@ -324,7 +332,8 @@ impl<'a> Elaborator<'a> {
         scope: &Table<Thing>,
         operands: &[cxx_tree::Printed],
     ) -> Result<Items<Printed>, Memory>
-        ensures { IfOk result (λ ps. map printed_core ps ≡ map (spec.core_printed self.now scope.now) (map printed_tree operands.now)) }
+        ensures { IfOk result (λ ps. map printed_core ps ≡
+            map (spec.core_printed self.now scope.now) (map printed_tree operands.now)) }
     {
         let mut made = Items::new(self.alloc);
         for operand in operands {
@@ -340,7 +349,8 @@ impl<'a> Elaborator<'a> {
         at: Place,
         value: Option<&cxx_tree::Expr>,
     ) -> Result<Stmt, Memory>
-        ensures { IfOk result (λ s. stmt_core s ≡ spec.core_return self.now scope.now at (option_map (λ e. expr_tree e.now) value.entry)) }
+        ensures { IfOk result (λ s. stmt_core s ≡ spec.core_return self.now scope.now at
+            (option_map (λ e. expr_tree e.now) value.entry)) }
     {
         match value {
             None => Ok(Stmt::Return(at)),
@@ -353,7 +363,8 @@ impl<'a> Elaborator<'a> {
 
     /// The start of a thread.
     pub(crate) fn thread(&self, scope: &Table<Thing>, thread: &Thread) -> Result<Stmt, Memory>
-        ensures { IfOk result (λ s. stmt_core s ≡ spec.core_thread self.now scope.now (thread_tree thread.now)) }
+        ensures { IfOk result (λ s. stmt_core s ≡
+            spec.core_thread self.now scope.now (thread_tree thread.now)) }
     {
         let called = thread.function.name.item;
         let arguments = self.exprs(scope, thread.arguments.as_slice())?;

@@ -1,7 +1,8 @@
 //! Statements, and what is in scope at each.
 
 ghost use Rattle.std.specs.Prelude.{◌≡◌, IfOk, OnOk};
-ghost use Rattle.cxx_tree.specs.StmtTree.{stmt_tree, stmts_tree, block_tree, if_tree, else_tree, while_tree, for_tree};
+ghost use Rattle.cxx_tree.specs.StmtTree.{stmt_tree, stmts_tree, block_tree, if_tree, else_tree};
+ghost use Rattle.cxx_tree.specs.StmtTree.{while_tree, for_tree};
 ghost use Rattle.cxx_core.specs.StmtView.{stmt_core, stmts_core};
 ghost use Rattle.cxx_core.specs.ElaboratedStmt as spec;
 
@@ -53,7 +54,8 @@ impl<'a> Elaborator<'a> {
         scope: &mut Table<Thing>,
         stmts: &[cxx_tree::Stmt],
     ) -> Result<Items<Stmt>, Memory>
-        ensures core { IfOk result (λ ss. stmts_core ss ≡ spec.core_stmts self.now scope.old (stmts_tree stmts.now)) }
+        ensures core { IfOk result (λ ss. stmts_core ss ≡
+            spec.core_stmts self.now scope.old (stmts_tree stmts.now)) }
         ensures scope { OnOk result (scope.new ≡ scope.old) }
     {
         let before = scope.len();
@@ -72,7 +74,8 @@ impl<'a> Elaborator<'a> {
         scope: &mut Table<Thing>,
         block: &Block,
     ) -> Result<Items<Stmt>, Memory>
-        ensures core { IfOk result (λ ss. stmts_core ss ≡ spec.core_block self.now scope.old (block_tree block.now)) }
+        ensures core { IfOk result (λ ss. stmts_core ss ≡
+            spec.core_block self.now scope.old (block_tree block.now)) }
         ensures scope { OnOk result (scope.new ≡ scope.old) }
     {
         self.stmts(scope, block.stmts.as_slice())
@@ -96,7 +99,8 @@ impl<'a> Elaborator<'a> {
 
     #[cycle(stmt)]
     fn otherwise(&self, scope: &mut Table<Thing>, otherwise: &Else) -> Result<Items<Stmt>, Memory>
-        ensures core { IfOk result (λ ss. stmts_core ss ≡ spec.core_else self.now scope.old (else_tree otherwise.now)) }
+        ensures core { IfOk result (λ ss. stmts_core ss ≡
+            spec.core_else self.now scope.old (else_tree otherwise.now)) }
         ensures scope { OnOk result (scope.new ≡ scope.old) }
     {
         match otherwise {
@@ -110,7 +114,8 @@ impl<'a> Elaborator<'a> {
 
     #[cycle(stmt)]
     fn repeat_while(&self, scope: &mut Table<Thing>, repeat: &While) -> Result<Stmt, Memory>
-        ensures core { IfOk result (λ s. stmt_core s ≡ spec.core_stmt self.now scope.old (while_tree repeat.now)) }
+        ensures core { IfOk result (λ s. stmt_core s ≡
+            spec.core_stmt self.now scope.old (while_tree repeat.now)) }
         ensures scope { OnOk result (scope.new ≡ spec.scope_after self.now scope.old (while_tree repeat.now)) }
     {
         let condition = self.boxed(scope, &repeat.condition)?;
@@ -120,7 +125,8 @@ impl<'a> Elaborator<'a> {
 
     #[cycle(stmt)]
     fn repeat_for(&self, scope: &mut Table<Thing>, repeat: &For) -> Result<Stmt, Memory>
-        ensures core { IfOk result (λ s. stmt_core s ≡ spec.core_stmt self.now scope.old (for_tree repeat.now)) }
+        ensures core { IfOk result (λ s. stmt_core s ≡
+            spec.core_stmt self.now scope.old (for_tree repeat.now)) }
         ensures scope { OnOk result (scope.new ≡ spec.scope_after self.now scope.old (for_tree repeat.now)) }
     {
         let before = scope.len();

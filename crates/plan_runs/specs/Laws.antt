@@ -8,7 +8,8 @@ use Rattle.plan_runs.specs.Reports.{report_of}
 
 -- a plan without flips runs as if they were set aside
 abbrev pub RunsUnflipped : Type 0
-RunsUnflipped = (plan : PlanMeaning) (m : Machine) → plan.flips ≡ [] → ((planned plan m).ran ≡ unflipped plan m) × ((planned plan m).flips ≡ 0)
+RunsUnflipped = (plan : PlanMeaning) (m : Machine) → plan.flips ≡ [] →
+    ((planned plan m).ran ≡ unflipped plan m) × ((planned plan m).flips ≡ 0)
 
 -- each step of the program as it was written has its thread
 abbrev pub ErasesSource : Type 0

@@ -13,7 +13,8 @@ pub fn write_output<O: Sink>(
     sink: &mut O,
 ) -> Result<Report, RunError>
     ensures report { IfOk result (λ told. told ≡ report) }
-    ensures output { WritesOutput (O.taken sink.old) (O.taken sink.new) output.now (O.faults sink.old) (O.faults sink.new) result }
+    ensures output { WritesOutput (O.taken sink.old) (O.taken sink.new) output.now
+        (O.faults sink.old) (O.faults sink.new) result }
 {
     match write_whole(sink, output) {
         Ok(()) => Ok(report),

@@ -3,7 +3,8 @@
 ghost use Rattle.std.specs.Prelude.{◌≡◌, ◌+◌, ◌<◌, ◌≤◌, ◌^◌, [], map, IfOk, OnOk};
 ghost use Rattle.step_engine.specs.TurnRuns.{counts_of, turns_in};
 ghost use Rattle.plan_runs.specs.Flips.{IsLeft, falling, flip_of};
-ghost use Rattle.plan_runs.specs.Runs.{progress, counted, with_flip, with_flips, after_flips, at_moment, planned, unflipped};
+ghost use Rattle.plan_runs.specs.Runs.{progress, counted, with_flip, with_flips};
+ghost use Rattle.plan_runs.specs.Runs.{after_flips, at_moment, planned, unflipped};
 ghost use Rattle.plan_runs.specs.Reports.{report_by, report_of};
 
 use crate::flip::Flip;
@@ -92,7 +93,8 @@ fn take_flips<H: Heap>(
     flips: u64,
 ) -> Result<u64, Memory>
     requires { IsLeft plan.now.flips turn watch.old.left }
-    ensures flips { IfOk result (λ more. (engine.new, more) ≡ with_flips (engine.old, flips) (map flip_of (falling plan.now.flips turn))) }
+    ensures flips { IfOk result (λ more. (engine.new, more) ≡
+        with_flips (engine.old, flips) (map flip_of (falling plan.now.flips turn))) }
     ensures left { OnOk result (IsLeft plan.now.flips (turn + 1) watch.new.left) }
     ensures erased { watch.new.erased ≡ watch.old.erased }
 {
@@ -112,7 +114,8 @@ fn take_moment<H: Heap>(
     requires left { IsLeft plan.now.flips turn watch.old.left }
     requires few { turns_in counts.old ≤ turn }
     requires room { turn + 1 < 2 ^ 64 }
-    ensures progress { IfOk result (λ more. progress engine.new counts.new more watch.new.erased ≡ at_moment plan.now turn (progress engine.old counts.old flips watch.old.erased)) }
+    ensures progress { IfOk result (λ more. progress engine.new counts.new more watch.new.erased ≡
+        at_moment plan.now turn (progress engine.old counts.old flips watch.old.erased)) }
     ensures left { OnOk result (IsLeft plan.now.flips (turn + 1) watch.new.left) }
     ensures few { OnOk result (turns_in counts.new ≤ turn + 1) }
 {
@@ -133,7 +136,8 @@ fn take_moments<H: Heap>(
 ) -> Result<(Counts, u64), Memory>
     requires left { IsLeft plan.now.flips 0 watch.old.left }
     requires begun { watch.old.erased ≡ [] }
-    ensures progress { IfOk result (λ r. progress engine.new r.0 r.1 watch.new.erased ≡ planned plan.now engine.old) }
+    ensures progress { IfOk result (λ r. progress engine.new r.0 r.1 watch.new.erased ≡
+        planned plan.now engine.old) }
     ensures few { IfOk result (λ r. turns_in r.0 < 2 ^ 64) }
 {
     let mut counts = Counts::new();
@@ -147,8 +151,8 @@ fn take_moments<H: Heap>(
     Ok((counts, flips))
 }
 
-/// Runs an engine by a plan: before each turn the flips of its moment fall, and the run goes on while it is running, for
-/// as many turns as the plan has at most.
+/// Runs an engine by a plan: before each turn the flips of its moment fall, and the run goes on while it is running,
+/// for as many turns as the plan has at most.
 pub fn run_plan<H: Heap>(
     engine: &mut Engine<'_, H>,
     plan: &Plan,
@@ -157,7 +161,8 @@ pub fn run_plan<H: Heap>(
     requires left { IsLeft plan.now.flips 0 watch.old.left }
     requires begun { watch.old.erased ≡ [] }
     ensures machine { OnOk result (engine.new ≡ (planned plan.now engine.old).ran.0) }
-    ensures report { IfOk result (λ report. report ≡ report_of (planned plan.now engine.old).ran (planned plan.now engine.old).flips) }
+    ensures report { IfOk result (λ report. report ≡
+        report_of (planned plan.now engine.old).ran (planned plan.now engine.old).flips) }
     ensures erased { OnOk result (watch.new.erased ≡ (planned plan.now engine.old).erased) }
 {
     let (counts, flips) = take_moments(engine, plan, watch)?;

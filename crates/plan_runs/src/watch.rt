@@ -3,6 +3,7 @@
 ghost use Rattle.std.specs.Prelude.{◌≡◌, ◌+◌, [], ◌∷◌, ◌++◌, map, IfOk, OnOk, OnErr, MatchOption};
 ghost use Rattle.plan_runs.specs.Flips.{flip_of, falling, first_of, rest_of, IsLeft};
 ghost use Rattle.plan_runs.specs.Runs.{erased_by};
+ghost use Rattle.plan_runs.specs.Watches.{PassesNone, Passes};
 
 use crate::flip::{Flip, flip_of};
 use agxx_base::{ListOf, Memory};
@@ -11,8 +12,8 @@ use std::alloc::Global;
 use std::marker::Model;
 use step_machine::StepKind;
 
-/// What watches a run by a plan: which flips fall before each turn, and which threads took the steps of the program as it
-/// was written.
+/// What watches a run by a plan: which flips fall before each turn, and which threads took the steps of the program
+/// as it was written.
 #[derive(Drop)]
 pub struct Watch {
     alloc: Global,
@@ -57,7 +58,7 @@ impl Watch {
 
     /// Passes the next flip, if it is one of a moment.
     fn pass(&mut self, turn: u64) -> Option<PlannedFlip>
-        ensures { MatchOption result ((self.new ≡ self.old) × (first_of turn self.old.left ≡ []) × (rest_of turn self.old.left ≡ self.old.left)) (λ flip. (first_of turn self.old.left ≡ flip ∷ first_of turn self.new.left) × (rest_of turn self.old.left ≡ rest_of turn self.new.left) × (self.new.erased ≡ self.old.erased)) }
+        ensures { MatchOption result (PassesNone turn self.old self.new) (Passes turn self.old self.new) }
     {
         if self.passed >= self.flips.len() {
             return None;
@@ -83,8 +84,8 @@ impl Watch {
         Ok(flips)
     }
 
-    /// The flips that fall before a turn, in the order of their lines. Where none falls, this takes no memory and a constant
-    /// time. Those of earlier turns must have been passed.
+    /// The flips that fall before a turn, in the order of their lines. Where none falls, this takes no memory and a
+    /// constant time. Those of earlier turns must have been passed.
     #[tactic(auto, using(crate::proofs::Lefts::first_is_falling))]
     pub fn before(&mut self, turn: u64) -> Result<ListOf<Flip>, Memory>
         requires { IsLeft self.old.left turn self.old.left }

@@ -7,7 +7,7 @@ ghost use Rattle.plan_runs.specs.Runs.{unflipped};
 ghost use Rattle.step_machine.specs.Machine.{next};
 ghost use Rattle.step_machine.specs.Start.{start};
 
-use crate::MapHeap;
+use crate::MapWords;
 use agxx_base::{Memory, Sink};
 use flip_plan::Plan;
 use plan_runs::{Report, RunError, run_unflipped, write_output};
@@ -16,11 +16,12 @@ use std::marker::Model;
 use step_engine::Engine;
 use step_machine::{State, StepKind};
 use step_setting::Setting;
+use step_world::Objects;
 
 /// A run of a program without weaving, whose objects find their words by number.
 #[derive(Drop)]
 pub struct SourceRun<'p> {
-    engine: Engine<'p, MapHeap>,
+    engine: Engine<'p, Objects<MapWords>>,
 }
 
 impl<'p> Model for SourceRun<'p> {
@@ -40,7 +41,7 @@ impl<'p> SourceRun<'p> {
     pub fn start(alloc: Global, setting: &'p Setting<'p>) -> Result<SourceRun<'p>, Memory>
         ensures { IfOk result (λ run. run ≡ start setting.now) }
     {
-        let engine = Engine::start(alloc, setting, MapHeap::new(alloc))?;
+        let engine = Engine::start(alloc, setting, Objects::new(alloc))?;
         Ok(SourceRun { engine })
     }
 
@@ -74,7 +75,8 @@ impl<'p> SourceRun<'p> {
         requires begun { self.old ≡ start self.old.setting }
         ensures machine { OnOk result (self.new ≡ (unflipped plan.now self.old).0) }
         ensures report { IfOk result (λ report. report ≡ report_of (unflipped plan.now self.old) 0) }
-        ensures output { WritesOutput (O.taken sink.old) (O.taken sink.new) (unflipped plan.now self.old).0.world.output (O.faults sink.old) (O.faults sink.new) result }
+        ensures output { WritesOutput (O.taken sink.old) (O.taken sink.new)
+            (unflipped plan.now self.old).0.world.output (O.faults sink.old) (O.faults sink.new) result }
     {
         let Ok(report) = run_unflipped(&mut self.engine, plan) else {
             return Err(RunError::Memory);

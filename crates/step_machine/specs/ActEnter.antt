@@ -1,5 +1,6 @@
 -- How a frame is entered, and the items that only enter one.
 use Rattle.std.specs.Prelude.{ℕ, ◌||◌, nat_lt, Bool, Option, Some, None, if◌then◌else◌}
+pub use Rattle.agxx_base.specs.Sizes.{depth_limit}
 use Rattle.agxx_base.specs.declared.place.Place.{Place}
 use Rattle.cxx_core.specs.CoreProgram.{CoreFunction}
 use Rattle.step_machine.specs.declared.outcome.Stop.TheVariants as stop
@@ -9,10 +10,6 @@ use Rattle.step_machine.specs.Item.{Ending}
 use Rattle.step_machine.specs.Frame.{Frame, Binding, arguments, frame_of, ending_by, depth_with}
 use Rattle.step_machine.specs.Effects as on
 use Rattle.step_machine.specs.Effects.{Deed, Act, goes, stops, stays}
-
--- how many counted frames a thread may have
-abbrev pub depth_limit : ℕ
-depth_limit = 200
 
 abbrev pub after_arguments : Binding → Frame → Frame
 after_arguments b f = record f { values = b.0 }

@@ -1,6 +1,7 @@
 -- Items that read or write variables, members and the output.
 use Rattle.std.specs.Prelude.{ℕ, ◌+◌, nat_le, List, length, Option, Some, None, if◌then◌else◌}
 use Rattle.std.specs.Fmt.{signed_decimal}
+pub use Rattle.agxx_base.specs.Sizes.{output_limit}
 use Rattle.agxx_base.specs.declared.kind.NumKind.{NumKind}
 use Rattle.agxx_base.specs.declared.place.Place.{Place}
 use Rattle.cxx_arith.specs.Numbers.{number}
@@ -65,10 +66,6 @@ module _ (s : Setting) (variable : ℕ → Datum) (word : ℕ → ℕ → Option
   put (c.member at o class name k) f = put_member word at k (word_number s class name) (object_now s variable f o) f
 
 -- ---- output
-
--- how many bytes a run may print
-abbrev pub output_limit : ℕ
-output_limit = 16777216
 
 abbrev pub shows : ℕ → Place → List ℕ → Frame → Act
 shows printed at text f =

@@ -1,5 +1,6 @@
 -- Items that construct an object or destroy one.
 use Rattle.std.specs.Prelude.{ℕ, ◌||◌, nat_lt, nat_eq, Bool, ◌∷◌, Option, Some, None, if◌then◌else◌}
+pub use Rattle.agxx_base.specs.Sizes.{object_limit}
 use Rattle.agxx_base.specs.declared.ids.ClassId.{ClassId}
 use Rattle.agxx_base.specs.declared.place.Place.{Place}
 use Rattle.cxx_core.specs.CoreExpr as c
@@ -14,10 +15,6 @@ use Rattle.step_machine.specs.Frame.{Frame, Binding, pushed, popped, top, argume
 use Rattle.step_machine.specs.Effects as on
 use Rattle.step_machine.specs.Effects.{Act, goes, stops, stays}
 use Rattle.step_machine.specs.ActEnter.{after_arguments, entering, enter_on, destruct}
-
--- how many objects may be made
-abbrev pub object_limit : ℕ
-object_limit = 65536
 
 module _ (s : Setting) (depth : ℕ) where
   -- ---- global objects

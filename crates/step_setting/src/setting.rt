@@ -40,7 +40,8 @@ impl<'p> Model for Setting<'p> {
 
     ghost view = { λ s. record { names = s.names.now; program = program_core s.program.now } };
 
-    ghost invariant = { λ s. Agrees (record { names = s.names.now; program = program_core s.program.now }) s.classes s.objects };
+    ghost invariant = { λ s.
+        Agrees (record { names = s.names.now; program = program_core s.program.now }) s.classes s.objects };
 }
 
 impl<'p> Setting<'p> {

@@ -48,7 +48,8 @@ fn ends_in_ordinal(names: &Names, name: NameId, skipped: usize) -> bool
 
 /// Whether a name is this beginning with a number.
 pub(crate) fn is_numbered(names: &Names, name: NameId, beginning: &[u8]) -> bool
-    ensures { result ≡ (spec.begins names.now name.0 beginning.now && inserted.ends_in_ordinal (slice_get names.now name.0) (length beginning.now)) }
+    ensures { result ≡ (spec.begins names.now name.0 beginning.now &&
+        inserted.ends_in_ordinal (slice_get names.now name.0) (length beginning.now)) }
 {
     begins(names, name, beginning) && ends_in_ordinal(names, name, beginning.len())
 }

@@ -1,7 +1,7 @@
 -- What a heap holds: objects, each at its number.
 use Rattle.std.specs.Prelude.{ℕ, Bool, true, false, is_some, nat_le, List, length, slice_get, Option, Some, None}
+use Rattle.agxx_base.specs.Sizes.{object_limit}
 use Rattle.agxx_base.specs.declared.ids.ClassId.{ClassId}
-use Rattle.step_machine.specs.ActObjects.{object_limit}
 use Rattle.step_machine.specs.World.{Object, word_by, class_by, holder_by, object_changed_by}
 use Rattle.step_world.specs.declared.heap.HeapError.{HeapError}
 use Rattle.step_world.specs.declared.heap.HeapError.TheVariants as error

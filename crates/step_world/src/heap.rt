@@ -6,9 +6,6 @@ ghost use Rattle.step_world.specs.Objects as in_heap;
 
 use agxx_base::{ClassId, Memory, ObjectId};
 
-/// How many objects may be made.
-pub const OBJECT_LIMIT: usize = 65_536;
-
 /// Why no object was made.
 #[derive(Clone, Copy, Debug, PartialEq, Eq)]
 pub enum HeapError {
@@ -60,7 +57,8 @@ pub trait Heap: Drop {
     /// Lets a word have these bits.
     fn store(&mut self, object: ObjectId, word: u32, bits: u64) -> Result<(), Memory>
         requires { in_heap.has_word (objects self.old) object.0 word ≡ true }
-        ensures ok { OnOk result (objects self.new ≡ in_heap.altered (objects self.old) object.0 (with_word word bits)) }
+        ensures ok { OnOk result (objects self.new ≡
+            in_heap.altered (objects self.old) object.0 (with_word word bits)) }
         ensures err { OnErr result (objects self.new ≡ objects self.old) };
 
     /// Who holds a mutex of a live object.
@@ -71,7 +69,8 @@ pub trait Heap: Drop {
     /// Lets a thread, or nobody, hold a mutex of a live object.
     fn set_holder(&mut self, object: ObjectId, lock: u32, holder: Option<u32>) -> Result<(), Memory>
         requires { in_heap.is_live (objects self.old) object.0 ≡ true }
-        ensures ok { OnOk result (objects self.new ≡ in_heap.altered (objects self.old) object.0 (with_holder lock holder)) }
+        ensures ok { OnOk result (objects self.new ≡
+            in_heap.altered (objects self.old) object.0 (with_holder lock holder)) }
         ensures err { OnErr result (objects self.new ≡ objects self.old) };
 
     /// How many objects were made.

@@ -5,9 +5,14 @@
 mod change;
 mod entries;
 mod heap;
+mod object;
+mod objects;
+mod word_store;
 mod world;
 
 pub use change::{Change, Lock};
 pub use entries::Entries;
-pub use heap::{Heap, HeapError, OBJECT_LIMIT};
+pub use heap::{Heap, HeapError};
+pub use objects::Objects;
+pub use word_store::WordStore;
 pub use world::World;

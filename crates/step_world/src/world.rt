@@ -2,7 +2,8 @@
 
 ghost use Rattle.std.specs.Prelude.{◌≡◌, [], length, false, is_some, OnOk, OnErr};
 ghost use Rattle.step_machine.specs.Entries.{entry};
-ghost use Rattle.step_machine.specs.World.{word_at, class_at, variable_at, holder_at, changed, object_changed, held, with_word, killed};
+ghost use Rattle.step_machine.specs.World.{word_at, class_at, variable_at, holder_at};
+ghost use Rattle.step_machine.specs.World.{changed, object_changed, held, with_word, killed};
 ghost use Rattle.step_world.specs.Changes.{lock_of, change_of};
 ghost use Rattle.step_world.specs.Worlds.{empty_world, declared, created, printed};
 
@@ -30,7 +31,12 @@ impl<H: Heap> Model for World<H> {
 
     ghost Value = { World };
 
-    ghost view = { λ w. record { objects = H.objects w.heap; variables = w.variables; holders = w.holders; output = w.output.items } };
+    ghost view = { λ w. record {
+      objects = H.objects w.heap;
+      variables = w.variables;
+      holders = w.holders;
+      output = w.output.items;
+    } };
 }
 
 impl<H: Heap> World<H> {
@@ -162,7 +168,7 @@ impl<H: Heap> World<H> {
         }
     }
 
-    /// Makes the next object, of so many words, all 0.
+    /// Makes the next object, of so many words, all 0. Where the heap is full, this is as without memory.
     pub fn create(&mut self, class: ClassId, words: u32) -> Result<(), Memory>
         ensures ok { OnOk result (self.new ≡ created class words self.old) }
         ensures err { OnErr result (self.new ≡ self.old) }

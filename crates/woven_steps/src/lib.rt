@@ -1,14 +1,11 @@
 //! The machine of woven programs. Its heap keeps the words of each object side by side.
 #![tactic(auto)]
 
-mod object;
-mod word_heap;
+mod list_words;
 mod woven_run;
 
-pub use word_heap::WordHeap;
+pub use list_words::ListWords;
 pub use woven_run::WovenRun;
 
-#[cfg(test)]
-mod run_tests;
 #[cfg(test)]
 mod tests;

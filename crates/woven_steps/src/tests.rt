@@ -1,13 +1,13 @@
 ghost use Rattle.std.specs.Prelude.{◌≡◌, []};
 
-use crate::WordHeap;
+use crate::ListWords;
 use agxx_base::{ClassId, Memory, NameId, ObjectId};
 use cxx_arith::flag;
 use std::alloc::Global;
 use std::process::Abort;
 use std::test::Fail;
 use step_machine::Datum;
-use step_world::{Change, Heap, Lock, World};
+use step_world::{Change, Heap, Lock, Objects, World};
 
 const FIRST: ObjectId = ObjectId(0);
 
@@ -96,6 +96,6 @@ fn walk<H: Heap>(rt: &impl Abort, alloc: Global, heap: H) -> Result<(), Memory>
 
 #[test]
 fn objects_are_made_and_killed(rt: HostRuntime) -> Result<(), Fail> {
-    walk(&rt, rt.alloc(), WordHeap::new(rt.alloc()))?;
+    walk(&rt, rt.alloc(), Objects::<ListWords>::new(rt.alloc()))?;
     Ok(())
 }

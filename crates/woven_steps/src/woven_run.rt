@@ -8,7 +8,7 @@ ghost use Rattle.plan_runs.specs.Runs.{planned};
 ghost use Rattle.step_machine.specs.Machine.{next};
 ghost use Rattle.step_machine.specs.Start.{start};
 
-use crate::WordHeap;
+use crate::ListWords;
 use agxx_base::{Memory, Sink};
 use flip_plan::Plan;
 use plan_runs::{Report, RunError, Watch, run_plan, write_output};
@@ -17,11 +17,12 @@ use std::marker::Model;
 use step_engine::Engine;
 use step_machine::{State, StepKind};
 use step_setting::Setting;
+use step_world::Objects;
 
 /// A run of a woven program, whose objects are lists of words.
 #[derive(Drop)]
 pub struct WovenRun<'p> {
-    engine: Engine<'p, WordHeap>,
+    engine: Engine<'p, Objects<ListWords>>,
 }
 
 impl<'p> Model for WovenRun<'p> {
@@ -41,7 +42,7 @@ impl<'p> WovenRun<'p> {
     pub fn start(alloc: Global, setting: &'p Setting<'p>) -> Result<WovenRun<'p>, Memory>
         ensures { IfOk result (λ run. run ≡ start setting.now) }
     {
-        let engine = Engine::start(alloc, setting, WordHeap::new(alloc))?;
+        let engine = Engine::start(alloc, setting, Objects::new(alloc))?;
         Ok(WovenRun { engine })
     }
 
@@ -81,9 +82,11 @@ impl<'p> WovenRun<'p> {
         requires left { IsLeft plan.now.flips 0 watch.old.left }
         requires new { watch.old.erased ≡ [] }
         ensures machine { OnOk result (self.new ≡ (planned plan.now self.old).ran.0) }
-        ensures report { IfOk result (λ report. report ≡ report_of (planned plan.now self.old).ran (planned plan.now self.old).flips) }
+        ensures report { IfOk result (λ report. report ≡
+            report_of (planned plan.now self.old).ran (planned plan.now self.old).flips) }
         ensures erased { OnOk result (watch.new.erased ≡ (planned plan.now self.old).erased) }
-        ensures output { WritesOutput (O.taken sink.old) (O.taken sink.new) (planned plan.now self.old).ran.0.world.output (O.faults sink.old) (O.faults sink.new) result }
+        ensures output { WritesOutput (O.taken sink.old) (O.taken sink.new)
+            (planned plan.now self.old).ran.0.world.output (O.faults sink.old) (O.faults sink.new) result }
     {
         let Ok(report) = run_plan(&mut self.engine, plan, watch) else {
             return Err(RunError::Memory);

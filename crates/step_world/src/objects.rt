@@ -1,24 +1,25 @@
-//! Objects whose words stand side by side.
+//! Objects in a list.
 
 ghost use Rattle.std.specs.Prelude.{◌≡◌, ◌++◌, [], ◌∷◌, slice_get, true, OnOk, OnErr};
 ghost use Rattle.step_machine.specs.World.{new_object};
 ghost use Rattle.step_world.specs.Objects as in_heap;
 
-use crate::object::WordObject;
-use agxx_base::{ClassId, Memory, ObjectId};
+use crate::heap::{Heap, HeapError};
+use crate::object::StoredObject;
+use crate::word_store::WordStore;
+use agxx_base::{ClassId, Memory, OBJECT_LIMIT, ObjectId};
 use std::alloc::Global;
 use std::marker::Model;
-use step_world::{Heap, HeapError, OBJECT_LIMIT};
 
-/// A heap that keeps the words of each object side by side. Each of its operations takes the same time however many
+/// A heap that keeps the words of each object in a store. Each of its operations takes the same time however many
 /// objects there are.
 #[derive(Drop)]
-pub struct WordHeap {
+pub struct Objects<W: WordStore> {
     alloc: Global,
-    objects: Vec<WordObject>,
+    objects: Vec<StoredObject<W>>,
 }
 
-impl Model for WordHeap {
+impl<W: WordStore> Model for Objects<W> {
     ghost use Rattle.std.specs.Prelude.{List};
     ghost use Rattle.step_machine.specs.World.{Object};
 
@@ -27,12 +28,12 @@ impl Model for WordHeap {
     ghost view = { λ heap. heap.objects.items };
 }
 
-impl WordHeap {
+impl<W: WordStore> Objects<W> {
     /// A heap with no objects, which takes no memory.
-    pub fn new(alloc: Global) -> WordHeap
+    pub fn new(alloc: Global) -> Objects<W>
         ensures { result ≡ [] }
     {
-        WordHeap {
+        Objects {
             alloc,
             objects: Vec::new(alloc),
         }
@@ -42,13 +43,13 @@ impl WordHeap {
         ensures ok { OnOk result (self.new ≡ self.old ++ new_object class words ∷ []) }
         ensures err { OnErr result (self.new ≡ self.old) }
     {
-        let object = WordObject::new(self.alloc, class, words)?;
+        let object = StoredObject::new(self.alloc, class, words)?;
         self.objects.push(object)?;
         Ok(())
     }
 
     // A live object.
-    fn object(&self, object: ObjectId) -> &WordObject
+    fn object(&self, object: ObjectId) -> &StoredObject<W>
         requires { in_heap.is_live self.now object.0 ≡ true }
         ensures { slice_get self.now object.0 ≡ Some result.now }
     {
@@ -56,7 +57,7 @@ impl WordHeap {
     }
 }
 
-impl Heap for WordHeap {
+impl<W: WordStore> Heap for Objects<W> {
     ghost objects = { λ heap. heap };
 
     fn create(&mut self, class: ClassId, words: u32) -> Result<ObjectId, HeapError> {
@@ -97,8 +98,7 @@ impl Heap for WordHeap {
     }
 
     fn store(&mut self, object: ObjectId, word: u32, bits: u64) -> Result<(), Memory> {
-        self.objects[object.0 as usize].store(word, bits);
-        Ok(())
+        self.objects[object.0 as usize].store(word, bits)
     }
 
     fn holder(&self, object: ObjectId, lock: u32) -> Option<u32> {

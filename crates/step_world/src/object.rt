@@ -1,46 +1,48 @@
-//! An object of the heap.
+//! An object of a heap.
 
 ghost use Rattle.std.specs.Prelude.{◌≡◌, ◌<◌, length, slice_get, Some, IfOk, OnOk, OnErr};
 ghost use Rattle.step_machine.specs.Entries.{entry};
 ghost use Rattle.step_machine.specs.World.{new_object, killed, with_word, with_holder, holder_in};
 
+use crate::entries::Entries;
+use crate::word_store::WordStore;
 use agxx_base::{ClassId, Memory};
 use std::alloc::Global;
 use std::marker::Model;
-use step_world::Entries;
 
-/// An object, with its words by their numbers. A word to which nothing was stored has no entry, and is 0.
+/// An object, with its words in a store.
 #[derive(Drop)]
-pub(crate) struct MapObject {
+pub(crate) struct StoredObject<W: WordStore> {
     class: ClassId,
     live: bool,
-    count: u32,
-    words: Entries<u64>,
+    words: W,
     holders: Entries<Option<u32>>,
 }
 
-impl Model for MapObject {
+impl<W: WordStore> Model for StoredObject<W> {
     ghost use Rattle.step_machine.specs.World.{Object};
 
     ghost Value = { Object };
 
-    ghost use Rattle.source_steps.specs.Words.{words_of};
-
-    ghost view = { λ o. record { class = o.class; live = o.live; words = words_of o.count o.words; holders = o.holders } };
+    ghost view = { λ o. record {
+      class = o.class;
+      live = o.live;
+      words = W.bits o.words;
+      holders = o.holders;
+    } };
 }
 
-impl MapObject {
-    #[tactic(auto, using(crate::proofs::Words::new_words))]
-    pub(crate) fn new(alloc: Global, class: ClassId, words: u32) -> MapObject
-        ensures { result ≡ new_object class words }
+impl<W: WordStore> StoredObject<W> {
+    pub(crate) fn new(alloc: Global, class: ClassId, count: u32) -> Result<StoredObject<W>, Memory>
+        ensures { IfOk result (λ object. object ≡ new_object class count) }
     {
-        MapObject {
+        let words = W::zeros(alloc, count)?;
+        Ok(StoredObject {
             class,
             live: true,
-            count: words,
-            words: Entries::new(alloc),
+            words,
             holders: Entries::new(alloc),
-        }
+        })
     }
 
     pub(crate) fn class(&self) -> ClassId
@@ -56,22 +58,17 @@ impl MapObject {
     }
 
     /// How many words it has.
-    #[tactic(auto, using(crate::proofs::Words::length_words))]
-    pub(crate) fn len(&self) -> u32
+    pub(crate) fn len(&self) -> usize
         ensures { result ≡ length self.now.words }
     {
-        self.count
+        self.words.len()
     }
 
-    #[tactic(auto, using(crate::proofs::Words::length_words, crate::proofs::Words::word_is))]
     pub(crate) fn load(&self, word: u32) -> u64
         requires { word < length self.now.words }
         ensures { slice_get self.now.words word ≡ Some result }
     {
-        match self.words.get(word) {
-            None => 0,
-            Some(bits) => *bits,
-        }
+        self.words.load(word)
     }
 
     pub(crate) fn holder(&self, lock: u32) -> Option<u32>
@@ -89,12 +86,12 @@ impl MapObject {
         self.live = false;
     }
 
-    #[tactic(auto, using(crate::proofs::Words::word_set))]
     pub(crate) fn store(&mut self, word: u32, bits: u64) -> Result<(), Memory>
+        requires { word < length self.old.words }
         ensures ok { OnOk result (self.new ≡ with_word word bits self.old) }
         ensures err { OnErr result (self.new ≡ self.old) }
     {
-        self.words.set(word, bits)
+        self.words.store(word, bits)
     }
 
     pub(crate) fn set_holder(&mut self, lock: u32, holder: Option<u32>) -> Result<(), Memory>
