@@ -11,16 +11,16 @@ use Rattle.cxx_types.specs.declared.limits.Counts.{Counts}
 use Rattle.cxx_types.specs.Violations.{rank}
 use Rattle.cxx_types.specs.Forms.{Form}
 use Rattle.cxx_types.specs.Unless.{with_place, places_in}
-use Rattle.cxx_types.specs.UnknownNames.{unknown}
-use Rattle.cxx_types.specs.DeclaredTwice.{again}
-use Rattle.cxx_types.specs.TypesDisagree.{mistyped}
-use Rattle.cxx_types.specs.WrongCounts.{miscounted}
-use Rattle.cxx_types.specs.BasesBefore.{baseless}
-use Rattle.cxx_types.specs.NotAccessible.{hidden}
-use Rattle.cxx_types.specs.Addresses.{homeless}
-use Rattle.cxx_types.specs.NotAllowedHere.{misplaced}
-use Rattle.cxx_types.specs.NoMain.{mainless}
-use Rattle.cxx_types.specs.TooMany.{surplus}
+use Rattle.cxx_types.specs.UnknownName.{unknown_name_at}
+use Rattle.cxx_types.specs.DeclaredTwice.{declared_twice_at}
+use Rattle.cxx_types.specs.TypesDisagree.{types_disagree_at}
+use Rattle.cxx_types.specs.WrongNumberOfArguments.{wrong_number_of_arguments_at}
+use Rattle.cxx_types.specs.BaseNotDeclaredBefore.{base_not_declared_before_at}
+use Rattle.cxx_types.specs.NotAccessible.{not_accessible_at}
+use Rattle.cxx_types.specs.AddressOfNoGlobalObject.{address_of_no_global_object_at}
+use Rattle.cxx_types.specs.NotAllowedHere.{not_allowed_here_at}
+use Rattle.cxx_types.specs.NoMain.{no_main_at}
+use Rattle.cxx_types.specs.TooMany.{too_many_at}
 use Rattle.cxx_types.specs.Rules.{is_of, place_of}
 use Rattle.cxx_types.proofs.Told.{told_by, told, all_told}
 
@@ -52,35 +52,35 @@ at-by r s (Some p) fs =
 abbrev pub Says : Counts → Rule → (Form → Option Place) → Type 0
 Says m r violated = (form : Form) (fs : List Refusal) → at r (told m form fs) ≡ at r fs ++ with_place (violated form) []
 
-pub unknown-says : (m : Counts) → Says m rule.N1 unknown
-unknown-says m form fs = simp (at-by, append-nil)
+pub unknown_name-says : (m : Counts) → Says m rule.N1 unknown_name_at
+unknown_name-says m form fs = simp (at-by, append-nil)
 
-pub again-says : (m : Counts) → Says m rule.N2 again
-again-says m form fs = simp (at-by, append-nil)
+pub declared_twice-says : (m : Counts) → Says m rule.N2 declared_twice_at
+declared_twice-says m form fs = simp (at-by, append-nil)
 
-pub mistyped-says : (m : Counts) → Says m rule.N3 mistyped
-mistyped-says m form fs = simp (at-by, append-nil)
+pub types_disagree-says : (m : Counts) → Says m rule.N3 types_disagree_at
+types_disagree-says m form fs = simp (at-by, append-nil)
 
-pub miscounted-says : (m : Counts) → Says m rule.N4 miscounted
-miscounted-says m form fs = simp (at-by, append-nil)
+pub wrong_number_of_arguments-says : (m : Counts) → Says m rule.N4 wrong_number_of_arguments_at
+wrong_number_of_arguments-says m form fs = simp (at-by, append-nil)
 
-pub baseless-says : (m : Counts) → Says m rule.N5 baseless
-baseless-says m form fs = simp (at-by, append-nil)
+pub base_not_declared_before-says : (m : Counts) → Says m rule.N5 base_not_declared_before_at
+base_not_declared_before-says m form fs = simp (at-by, append-nil)
 
-pub hidden-says : (m : Counts) → Says m rule.N6 hidden
-hidden-says m form fs = simp (at-by, append-nil)
+pub not_accessible-says : (m : Counts) → Says m rule.N6 not_accessible_at
+not_accessible-says m form fs = simp (at-by, append-nil)
 
-pub homeless-says : (m : Counts) → Says m rule.N7 homeless
-homeless-says m form fs = simp (at-by, append-nil)
+pub address_of_no_global_object-says : (m : Counts) → Says m rule.N7 address_of_no_global_object_at
+address_of_no_global_object-says m form fs = simp (at-by, append-nil)
 
-pub misplaced-says : (m : Counts) → Says m rule.N8 misplaced
-misplaced-says m form fs = simp (at-by, append-nil)
+pub not_allowed_here-says : (m : Counts) → Says m rule.N8 not_allowed_here_at
+not_allowed_here-says m form fs = simp (at-by, append-nil)
 
-pub mainless-says : (m : Counts) → Says m rule.N9 mainless
-mainless-says m form fs = simp (at-by, append-nil)
+pub no_main-says : (m : Counts) → Says m rule.N9 no_main_at
+no_main-says m form fs = simp (at-by, append-nil)
 
-pub surplus-says : (m : Counts) → Says m rule.N10 (surplus m)
-surplus-says m form fs = simp (at-by, append-nil)
+pub too_many-says : (m : Counts) → Says m rule.N10 (too_many_at m)
+too_many-says m form fs = simp (at-by, append-nil)
 
 -- other rules say nothing
 abbrev pub silent : Form → Option Place

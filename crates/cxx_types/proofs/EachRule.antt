@@ -17,8 +17,8 @@ use Rattle.cxx_types.specs.ProgramForms.{forms_of_decls, forms_of_program, top}
 use Rattle.cxx_types.specs.Unless.{places_in}
 use Rattle.cxx_types.specs.Rules.{EachRuleByItself, violated_at}
 use Rattle.cxx_types.proofs.Told.{told_by, all_told, told-append}
-use Rattle.cxx_types.proofs.Decls.{checked-gives}
-use Rattle.cxx_types.proofs.ByRule.{at, Says, says-all, unknown-says, again-says, mistyped-says, miscounted-says, baseless-says, hidden-says, silent, silent-says, silent-places, homeless-says, misplaced-says, mainless-says, surplus-says}
+use Rattle.cxx_types.proofs.WalkedPrograms.{checked-gives}
+use Rattle.cxx_types.proofs.ByRule.{at, Says, says-all, unknown_name-says, declared_twice-says, types_disagree-says, wrong_number_of_arguments-says, base_not_declared_before-says, not_accessible-says, silent, silent-says, silent-places, address_of_no_global_object-says, not_allowed_here-says, no_main-says, too_many-says}
 
 one-told : (fs : List Refusal) (x : Option Place) → fs ++ one_at x ≡ told_by rule.N10 x fs
 one-told fs None = append-nil fs
@@ -38,15 +38,15 @@ by-itself names mode q r violated says =
 
 pub each_rule : EachRuleByItself
 each_rule names mode q = record {
-  unknown_names = by-itself names mode q rule.N1 _ (unknown-says (most mode));
-  declared_twice = by-itself names mode q rule.N2 _ (again-says (most mode));
-  types_disagree = by-itself names mode q rule.N3 _ (mistyped-says (most mode));
-  wrong_counts = by-itself names mode q rule.N4 _ (miscounted-says (most mode));
-  bases_not_before = by-itself names mode q rule.N5 _ (baseless-says (most mode));
-  not_accessible = by-itself names mode q rule.N6 _ (hidden-says (most mode));
-  addresses = by-itself names mode q rule.N7 _ (homeless-says (most mode));
-  not_allowed_here = by-itself names mode q rule.N8 _ (misplaced-says (most mode));
-  no_main = by-itself names mode q rule.N9 _ (mainless-says (most mode));
-  too_many = by-itself names mode q rule.N10 _ (surplus-says (most mode));
+  unknown_name = by-itself names mode q rule.N1 _ (unknown_name-says (most mode));
+  declared_twice = by-itself names mode q rule.N2 _ (declared_twice-says (most mode));
+  types_disagree = by-itself names mode q rule.N3 _ (types_disagree-says (most mode));
+  wrong_number_of_arguments = by-itself names mode q rule.N4 _ (wrong_number_of_arguments-says (most mode));
+  base_not_declared_before = by-itself names mode q rule.N5 _ (base_not_declared_before-says (most mode));
+  not_accessible = by-itself names mode q rule.N6 _ (not_accessible-says (most mode));
+  address_of_no_global_object = by-itself names mode q rule.N7 _ (address_of_no_global_object-says (most mode));
+  not_allowed_here = by-itself names mode q rule.N8 _ (not_allowed_here-says (most mode));
+  no_main = by-itself names mode q rule.N9 _ (no_main-says (most mode));
+  too_many = by-itself names mode q rule.N10 _ (too_many-says (most mode));
   others = λ other e. by-itself names mode q other silent (silent-says (most mode) other e) ∙ silent-places (forms_of_program names q);
 }

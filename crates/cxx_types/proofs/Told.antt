@@ -11,16 +11,16 @@ use Rattle.cxx_types.specs.Checking.{required}
 use Rattle.cxx_types.specs.Sites.{Site}
 use Rattle.cxx_types.specs.Forms.{Form}
 use Rattle.cxx_types.specs.Unless.{unless}
-use Rattle.cxx_types.specs.UnknownNames.{unknown}
-use Rattle.cxx_types.specs.DeclaredTwice.{again}
-use Rattle.cxx_types.specs.TypesDisagree.{mistyped}
-use Rattle.cxx_types.specs.WrongCounts.{miscounted}
-use Rattle.cxx_types.specs.BasesBefore.{baseless}
-use Rattle.cxx_types.specs.NotAccessible.{hidden}
-use Rattle.cxx_types.specs.Addresses.{homeless}
-use Rattle.cxx_types.specs.NotAllowedHere.{misplaced}
-use Rattle.cxx_types.specs.NoMain.{mainless}
-use Rattle.cxx_types.specs.TooMany.{surplus}
+use Rattle.cxx_types.specs.UnknownName.{unknown_name_at}
+use Rattle.cxx_types.specs.DeclaredTwice.{declared_twice_at}
+use Rattle.cxx_types.specs.TypesDisagree.{types_disagree_at}
+use Rattle.cxx_types.specs.WrongNumberOfArguments.{wrong_number_of_arguments_at}
+use Rattle.cxx_types.specs.BaseNotDeclaredBefore.{base_not_declared_before_at}
+use Rattle.cxx_types.specs.NotAccessible.{not_accessible_at}
+use Rattle.cxx_types.specs.AddressOfNoGlobalObject.{address_of_no_global_object_at}
+use Rattle.cxx_types.specs.NotAllowedHere.{not_allowed_here_at}
+use Rattle.cxx_types.specs.NoMain.{no_main_at}
+use Rattle.cxx_types.specs.TooMany.{too_many_at}
 
 -- a violation behind others
 abbrev pub told_by : Rule → Option Place → List Refusal → List Refusal
@@ -30,16 +30,16 @@ told_by rule (Some at) fs = fs ++ (record { rule = rule; place = at }) ∷ []
 -- what all rules say of a form, in the order in which a walk finds it
 abbrev pub told : Counts → Form → List Refusal → List Refusal
 told m form fs =
-    told_by rule.N10 (surplus m form)
-    (told_by rule.N9 (mainless form)
-    (told_by rule.N7 (homeless form)
-    (told_by rule.N3 (mistyped form)
-    (told_by rule.N4 (miscounted form)
-    (told_by rule.N8 (misplaced form)
-    (told_by rule.N6 (hidden form)
-    (told_by rule.N5 (baseless form)
-    (told_by rule.N2 (again form)
-    (told_by rule.N1 (unknown form) fs)))))))))
+    told_by rule.N10 (too_many_at m form)
+    (told_by rule.N9 (no_main_at form)
+    (told_by rule.N7 (address_of_no_global_object_at form)
+    (told_by rule.N3 (types_disagree_at form)
+    (told_by rule.N4 (wrong_number_of_arguments_at form)
+    (told_by rule.N8 (not_allowed_here_at form)
+    (told_by rule.N6 (not_accessible_at form)
+    (told_by rule.N5 (base_not_declared_before_at form)
+    (told_by rule.N2 (declared_twice_at form)
+    (told_by rule.N1 (unknown_name_at form) fs)))))))))
 
 abbrev pub all_told : Counts → List Form → List Refusal → List Refusal
 all_told m [] fs = fs

@@ -30,12 +30,12 @@ abbrev pub is_inherited : Site → Option ClassId → Placed NameId → Bool
 is_inherited w None name = false
 is_inherited w (Some base) name = has_item w.declared base name.item.0
 
-abbrev pub again : Form → Option Place
-again (form.local_name w name) = unless (not (is_some (named w.scope name.item.0))) name.at
-again (form.apart w name) = later_of w.context.index name (info_of w (class_meant w name))
-again (form.initialiser before name) = unless (not (is_some (named before name.item.0))) name.at
-again (form.again is_second name) = unless (not is_second) name.at
-again (form.item_name w class index name) =
+abbrev pub declared_twice_at : Form → Option Place
+declared_twice_at (form.local_name w name) = unless (not (is_some (named w.scope name.item.0))) name.at
+declared_twice_at (form.apart w name) = later_of w.context.index name (info_of w (class_meant w name))
+declared_twice_at (form.initialiser before name) = unless (not (is_some (named before name.item.0))) name.at
+declared_twice_at (form.second is_second name) = unless (not is_second) name.at
+declared_twice_at (form.item_name w class index name) =
     unless (not (either (stands_before (named class.items name.item.0) index) (is_inherited w class.base name))) name.at
-again (form.decl_name w index name) = unless (not (is_declared_before w.declared name.item.0 index)) name.at
-again _ = None
+declared_twice_at (form.decl_name w index name) = unless (not (is_declared_before w.declared name.item.0 index)) name.at
+declared_twice_at _ = None

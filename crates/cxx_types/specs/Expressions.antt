@@ -29,7 +29,7 @@ use Rattle.cxx_names.specs.LookUp.{thing_of}
 use Rattle.cxx_types.specs.declared.context.Context.{Context}
 use Rattle.cxx_types.specs.declared.entry.Meaning.TheVariants as meaning
 use Rattle.cxx_types.specs.State.{State}
-use Rattle.cxx_types.specs.Called.{Callable}
+use Rattle.cxx_types.specs.Callable.{Callable}
 use Rattle.cxx_types.specs.Checking.{required, noted, opened, closed}
 use Rattle.cxx_types.specs.Conversion.{may_convert, may_be_number, takes, takes_one, binary_type, unary_type, casts, cast_type, truth}
 use Rattle.cxx_types.specs.Selections.{meant, variable_node, read, selected, value_of}

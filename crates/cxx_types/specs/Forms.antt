@@ -98,7 +98,7 @@ pub data Form : Type 0 where
   without_initialiser : Site → ClassInfo → Placed NameId → Form
   -- the name of a constructor or destructor, which is the class's second or not
   lifecycle : ClassInfo → Placed NameId → Form
-  again : Bool → Placed NameId → Form
+  second : Bool → Placed NameId → Form
   -- the name of a member or function, the one at this place in its class
   item_name : Site → ClassInfo → ℕ → Placed NameId → Form
   member_type : Placed NameId → TypeName → Form

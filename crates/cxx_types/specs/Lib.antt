@@ -3,7 +3,7 @@ pub mod Access
 pub mod Conversion
 pub mod Checking
 pub mod Selections
-pub mod Called
+pub mod Callable
 pub mod Calls
 pub mod Expressions
 pub mod Counts
@@ -20,13 +20,13 @@ pub mod Forms
 pub mod StmtForms
 pub mod ProgramForms
 pub mod Unless
-pub mod UnknownNames
+pub mod UnknownName
 pub mod DeclaredTwice
 pub mod TypesDisagree
-pub mod WrongCounts
-pub mod BasesBefore
+pub mod WrongNumberOfArguments
+pub mod BaseNotDeclaredBefore
 pub mod NotAccessible
-pub mod Addresses
+pub mod AddressOfNoGlobalObject
 pub mod NotAllowedHere
 pub mod NoMain
 pub mod TooMany

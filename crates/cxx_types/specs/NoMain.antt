@@ -6,6 +6,6 @@ use Rattle.cxx_types.specs.Forms as form
 use Rattle.cxx_types.specs.Forms.{Form}
 use Rattle.cxx_types.specs.Unless.{unless}
 
-abbrev pub mainless : Form → Option Place
-mainless (form.program names q) = unless (has_main names q.decls) q.at
-mainless _ = None
+abbrev pub no_main_at : Form → Option Place
+no_main_at (form.program names q) = unless (has_main names q.decls) q.at
+no_main_at _ = None

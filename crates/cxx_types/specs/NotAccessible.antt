@@ -25,58 +25,58 @@ use Rattle.cxx_types.specs.Forms as form
 use Rattle.cxx_types.specs.Forms.{Form}
 use Rattle.cxx_types.specs.Unless.{unless}
 
-abbrev pub variable_hidden : Site → Ref → Option Place
-variable_hidden w r = unless (variable_is_usable w r) r.name.at
+abbrev pub variable_not_accessible : Site → Ref → Option Place
+variable_not_accessible w r = unless (variable_is_usable w r) r.name.at
 
-abbrev pub base_hidden : Site → Base → Option Place
-base_hidden w base_of.This = None
-base_hidden w (base_of.Dot r) = variable_hidden w r
-base_hidden w (base_of.Arrow r) = variable_hidden w r
+abbrev pub base_not_accessible : Site → Base → Option Place
+base_not_accessible w base_of.This = None
+base_not_accessible w (base_of.Dot r) = variable_not_accessible w r
+base_not_accessible w (base_of.Arrow r) = variable_not_accessible w r
 
-abbrev pub member_hidden_by : Site → Place → ClassId → Option (ClassId × MemberInfo) → Option Place
-member_hidden_by w at class None = None
-member_hidden_by w at class (Some m) = unless (member_is_usable w class m) at
+abbrev pub member_not_accessible_by : Site → Place → ClassId → Option (ClassId × MemberInfo) → Option Place
+member_not_accessible_by w at class None = None
+member_not_accessible_by w at class (Some m) = unless (member_is_usable w class m) at
 
-abbrev pub member_hidden : Site → Placed NameId → Holder → Option Place
-member_hidden w name (holder.Class class) = member_hidden_by w name.at class (member_meant w class name)
-member_hidden w name _ = None
+abbrev pub member_not_accessible : Site → Placed NameId → Holder → Option Place
+member_not_accessible w name (holder.Class class) = member_not_accessible_by w name.at class (member_meant w class name)
+member_not_accessible w name _ = None
 
-abbrev pub method_hidden_by : Site → Place → ClassId → Option (ClassId × Signature) → Option Place
-method_hidden_by w at class None = None
-method_hidden_by w at class (Some f) = unless (method_is_usable w class f) at
+abbrev pub method_not_accessible_by : Site → Place → ClassId → Option (ClassId × Signature) → Option Place
+method_not_accessible_by w at class None = None
+method_not_accessible_by w at class (Some f) = unless (method_is_usable w class f) at
 
-abbrev pub method_hidden : Site → Placed NameId → Holder → Option Place
-method_hidden w name (holder.Class class) = method_hidden_by w name.at class (method_meant w class name)
-method_hidden w name _ = None
+abbrev pub method_not_accessible : Site → Placed NameId → Holder → Option Place
+method_not_accessible w name (holder.Class class) = method_not_accessible_by w name.at class (method_meant w class name)
+method_not_accessible w name _ = None
 
-abbrev pub function_hidden : Site → Place → Option (Option ClassId × Signature) → Option Place
-function_hidden w at None = None
-function_hidden w at (Some f) = unless (access_of w.declared w.context.class f) at
+abbrev pub function_not_accessible : Site → Place → Option (Option ClassId × Signature) → Option Place
+function_not_accessible w at None = None
+function_not_accessible w at (Some f) = unless (access_of w.declared w.context.class f) at
 
-abbrev pub callee_hidden : Site → Callee → Option Place
-callee_hidden w (callee_of.Bare r) = function_hidden w r.name.at (function_meant w r)
-callee_hidden w (callee_of.Member q) = method_hidden w q.name (holder_of w q.base)
+abbrev pub callee_not_accessible : Site → Callee → Option Place
+callee_not_accessible w (callee_of.Bare r) = function_not_accessible w r.name.at (function_meant w r)
+callee_not_accessible w (callee_of.Member q) = method_not_accessible w q.name (holder_of w q.base)
 
-abbrev pub constructor_hidden : Site → Place → Option ClassId → Option Place
-constructor_hidden w at None = None
-constructor_hidden w at (Some class) = unless (is_usable w class (ctor_meant w class)) at
+abbrev pub constructor_not_accessible : Site → Place → Option ClassId → Option Place
+constructor_not_accessible w at None = None
+constructor_not_accessible w at (Some class) = unless (is_usable w class (ctor_meant w class)) at
 
-abbrev pub destructor_hidden : Site → Place → Option ClassId → Option Place
-destructor_hidden w at None = None
-destructor_hidden w at (Some class) = unless (is_usable w class (dtor_meant w class)) at
+abbrev pub destructor_not_accessible : Site → Place → Option ClassId → Option Place
+destructor_not_accessible w at None = None
+destructor_not_accessible w at (Some class) = unless (is_usable w class (dtor_meant w class)) at
 
-abbrev pub deleted_hidden : Site → Place → Option ValueType → Option Place
-deleted_hidden w at (Some (value.Pointer class)) = destructor_hidden w at (Some class)
-deleted_hidden w at _ = None
+abbrev pub deleted_not_accessible : Site → Place → Option ValueType → Option Place
+deleted_not_accessible w at (Some (value.Pointer class)) = destructor_not_accessible w at (Some class)
+deleted_not_accessible w at _ = None
 
-abbrev pub hidden : Form → Option Place
-hidden (form.variable w r) = variable_hidden w r
-hidden (form.base w at b) = base_hidden w b
-hidden (form.member w at q) = member_hidden w q.name (holder_of w q.base)
-hidden (form.call w n callee count as_value) = callee_hidden w callee
-hidden (form.creation w name count) = constructor_hidden w name.at (class_meant w name)
-hidden (form.deleted w at e) = deleted_hidden w at (type_of_expr w e)
-hidden (form.head w base class) = unless (both (is_derivable (base_ctor_in w.declared class)) (is_derivable (base_dtor_in w.declared class))) class.name.at
-hidden (form.object w o) = constructor_hidden w o.name.at (class_meant w o.class)
-hidden (form.object_end w o) = destructor_hidden w o.name.at (class_meant w o.class)
-hidden _ = None
+abbrev pub not_accessible_at : Form → Option Place
+not_accessible_at (form.variable w r) = variable_not_accessible w r
+not_accessible_at (form.base w at b) = base_not_accessible w b
+not_accessible_at (form.member w at q) = member_not_accessible w q.name (holder_of w q.base)
+not_accessible_at (form.call w n callee count as_value) = callee_not_accessible w callee
+not_accessible_at (form.creation w name count) = constructor_not_accessible w name.at (class_meant w name)
+not_accessible_at (form.deleted w at e) = deleted_not_accessible w at (type_of_expr w e)
+not_accessible_at (form.head w base class) = unless (both (is_derivable (base_ctor_in w.declared class)) (is_derivable (base_dtor_in w.declared class))) class.name.at
+not_accessible_at (form.object w o) = constructor_not_accessible w o.name.at (class_meant w o.class)
+not_accessible_at (form.object_end w o) = destructor_not_accessible w o.name.at (class_meant w o.class)
+not_accessible_at _ = None

@@ -59,18 +59,18 @@ abbrev pub main_started : Place → Option Signature → Option Place
 main_started at None = None
 main_started at (Some f) = unless (not f.is_main) at
 
-abbrev pub call_misplaced : Site → Node → Callee → Bool → Option Place
-call_misplaced w n (callee_of.Bare r) as_value = main_called n.at (function_meant w r)
-call_misplaced w n (callee_of.Member q) as_value = no_call_value w n q.name as_value (holder_of w q.base)
+abbrev pub call_not_allowed : Site → Node → Callee → Bool → Option Place
+call_not_allowed w n (callee_of.Bare r) as_value = main_called n.at (function_meant w r)
+call_not_allowed w n (callee_of.Member q) as_value = no_call_value w n q.name as_value (holder_of w q.base)
 
 -- `void` is the type of a result alone
 abbrev pub void_variable : Place → TypeName → Option Place
 void_variable at type_name.Void = Some at
 void_variable at _ = None
 
-abbrev pub return_misplaced : Place → Owner → Option Place
-return_misplaced at owner.Lifecycle = Some at
-return_misplaced at _ = None
+abbrev pub return_not_allowed : Place → Owner → Option Place
+return_not_allowed at owner.Lifecycle = Some at
+return_not_allowed at _ = None
 
 abbrev pub left_names_member : Site → Left → Bool
 left_names_member w (left_of.Name r) = of_member (variable_meant w r)
@@ -97,15 +97,15 @@ abbrev mutual
   any_uses_members w e.no_exprs = false
   any_uses_members w (e.more_exprs first rest) = either (uses_members w first) (any_uses_members w rest)
 
-abbrev pub misplaced : Form → Option Place
-misplaced (form.own w n) = this_outside w n.at
-misplaced (form.base w at b) = base_outside w at b
-misplaced (form.member w at q) = no_member_value w at q.name (holder_of w q.base)
-misplaced (form.call w n callee count as_value) = call_misplaced w n callee as_value
-misplaced (form.variable_type w t) = void_variable t.at t.item
-misplaced (form.returned w at e) = return_misplaced at w.context.owner
-misplaced (form.thread outermost at) = unless outermost at
-misplaced (form.started w at r) = main_started at (free_signature w.declared r.name.item.0)
-misplaced (form.base_argument w x) = unless (not (uses_members w x)) (expr_node x).at
-misplaced (form.member_type name t) = unless (not (is_pointer t)) name.at
-misplaced _ = None
+abbrev pub not_allowed_here_at : Form → Option Place
+not_allowed_here_at (form.own w n) = this_outside w n.at
+not_allowed_here_at (form.base w at b) = base_outside w at b
+not_allowed_here_at (form.member w at q) = no_member_value w at q.name (holder_of w q.base)
+not_allowed_here_at (form.call w n callee count as_value) = call_not_allowed w n callee as_value
+not_allowed_here_at (form.variable_type w t) = void_variable t.at t.item
+not_allowed_here_at (form.returned w at e) = return_not_allowed at w.context.owner
+not_allowed_here_at (form.thread outermost at) = unless outermost at
+not_allowed_here_at (form.started w at r) = main_started at (free_signature w.declared r.name.item.0)
+not_allowed_here_at (form.base_argument w x) = unless (not (uses_members w x)) (expr_node x).at
+not_allowed_here_at (form.member_type name t) = unless (not (is_pointer t)) name.at
+not_allowed_here_at _ = None

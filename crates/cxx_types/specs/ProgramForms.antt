@@ -97,13 +97,13 @@ forms_without w class name false = form.without_initialiser w class name ∷ []
 
 abbrev pub forms_of_ctor : Site → Option (Placed NameId) → ClassInfo → Bool → CtorTree → List Form
 forms_of_ctor w base class is_second k =
-    form.again is_second k.name ∷ form.lifecycle class k.name
+    form.second is_second k.name ∷ form.lifecycle class k.name
     ∷ (forms_of_params w 0 k.params
     ++ (forms_without (with_params w k.params) class k.name (initialises_base base class k.inits)
     ++ (forms_of_inits (with_params w k.params) base class [] k.inits ++ forms_of_body (with_params w k.params) k.body)))
 
 abbrev pub forms_of_dtor : Site → ClassInfo → Bool → DtorTree → List Form
-forms_of_dtor w class is_second k = form.again is_second k.name ∷ form.lifecycle class k.name ∷ forms_of_body w k.body
+forms_of_dtor w class is_second k = form.second is_second k.name ∷ form.lifecycle class k.name ∷ forms_of_body w k.body
 
 abbrev pub forms_of_member : Site → ClassInfo → ItemsSeen → Member → List Form
 forms_of_member w class seen m =

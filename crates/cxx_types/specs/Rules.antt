@@ -12,56 +12,56 @@ use Rattle.cxx_types.specs.Counts.{most}
 use Rattle.cxx_types.specs.Violations.{rank, violations_of}
 use Rattle.cxx_types.specs.ProgramForms.{forms_of_program}
 use Rattle.cxx_types.specs.Unless.{places_in}
-use Rattle.cxx_types.specs.UnknownNames.{unknown}
-use Rattle.cxx_types.specs.DeclaredTwice.{again}
-use Rattle.cxx_types.specs.TypesDisagree.{mistyped}
-use Rattle.cxx_types.specs.WrongCounts.{miscounted}
-use Rattle.cxx_types.specs.BasesBefore.{baseless}
-use Rattle.cxx_types.specs.NotAccessible.{hidden}
-use Rattle.cxx_types.specs.Addresses.{homeless}
-use Rattle.cxx_types.specs.NotAllowedHere.{misplaced}
-use Rattle.cxx_types.specs.NoMain.{mainless}
-use Rattle.cxx_types.specs.TooMany.{surplus}
+use Rattle.cxx_types.specs.UnknownName.{unknown_name_at}
+use Rattle.cxx_types.specs.DeclaredTwice.{declared_twice_at}
+use Rattle.cxx_types.specs.TypesDisagree.{types_disagree_at}
+use Rattle.cxx_types.specs.WrongNumberOfArguments.{wrong_number_of_arguments_at}
+use Rattle.cxx_types.specs.BaseNotDeclaredBefore.{base_not_declared_before_at}
+use Rattle.cxx_types.specs.NotAccessible.{not_accessible_at}
+use Rattle.cxx_types.specs.AddressOfNoGlobalObject.{address_of_no_global_object_at}
+use Rattle.cxx_types.specs.NotAllowedHere.{not_allowed_here_at}
+use Rattle.cxx_types.specs.NoMain.{no_main_at}
+use Rattle.cxx_types.specs.TooMany.{too_many_at}
 
 -- N1
-abbrev pub unknown_names : List (List ℕ) → ProgramTree → List Place
-unknown_names names q = places_in unknown (forms_of_program names q)
+abbrev pub unknown_name : List (List ℕ) → ProgramTree → List Place
+unknown_name names q = places_in unknown_name_at (forms_of_program names q)
 
 -- N2
 abbrev pub declared_twice : List (List ℕ) → ProgramTree → List Place
-declared_twice names q = places_in again (forms_of_program names q)
+declared_twice names q = places_in declared_twice_at (forms_of_program names q)
 
 -- N3
 abbrev pub types_disagree : List (List ℕ) → ProgramTree → List Place
-types_disagree names q = places_in mistyped (forms_of_program names q)
+types_disagree names q = places_in types_disagree_at (forms_of_program names q)
 
 -- N4
-abbrev pub wrong_counts : List (List ℕ) → ProgramTree → List Place
-wrong_counts names q = places_in miscounted (forms_of_program names q)
+abbrev pub wrong_number_of_arguments : List (List ℕ) → ProgramTree → List Place
+wrong_number_of_arguments names q = places_in wrong_number_of_arguments_at (forms_of_program names q)
 
 -- N5
-abbrev pub bases_not_before : List (List ℕ) → ProgramTree → List Place
-bases_not_before names q = places_in baseless (forms_of_program names q)
+abbrev pub base_not_declared_before : List (List ℕ) → ProgramTree → List Place
+base_not_declared_before names q = places_in base_not_declared_before_at (forms_of_program names q)
 
 -- N6
 abbrev pub not_accessible : List (List ℕ) → ProgramTree → List Place
-not_accessible names q = places_in hidden (forms_of_program names q)
+not_accessible names q = places_in not_accessible_at (forms_of_program names q)
 
 -- N7
-abbrev pub addresses : List (List ℕ) → ProgramTree → List Place
-addresses names q = places_in homeless (forms_of_program names q)
+abbrev pub address_of_no_global_object : List (List ℕ) → ProgramTree → List Place
+address_of_no_global_object names q = places_in address_of_no_global_object_at (forms_of_program names q)
 
 -- N8
 abbrev pub not_allowed_here : List (List ℕ) → ProgramTree → List Place
-not_allowed_here names q = places_in misplaced (forms_of_program names q)
+not_allowed_here names q = places_in not_allowed_here_at (forms_of_program names q)
 
 -- N9
 abbrev pub no_main : List (List ℕ) → ProgramTree → List Place
-no_main names q = places_in mainless (forms_of_program names q)
+no_main names q = places_in no_main_at (forms_of_program names q)
 
 -- N10, where a program is read so
 abbrev pub too_many : List (List ℕ) → Mode → ProgramTree → List Place
-too_many names mode q = places_in (surplus (most mode)) (forms_of_program names q)
+too_many names mode q = places_in (too_many_at (most mode)) (forms_of_program names q)
 
 -- ---- the law
 
@@ -77,13 +77,13 @@ violated_at names mode q rule = map place_of (filter (is_of rule) (violations_of
 
 -- the violations that are found by going through a program are those that each rule by itself says, in text order
 pub record EachRule (names : List (List ℕ)) (mode : Mode) (q : ProgramTree) : Type 0 where
-  pub unknown_names : violated_at names mode q rule.N1 ≡ unknown_names names q
+  pub unknown_name : violated_at names mode q rule.N1 ≡ unknown_name names q
   pub declared_twice : violated_at names mode q rule.N2 ≡ declared_twice names q
   pub types_disagree : violated_at names mode q rule.N3 ≡ types_disagree names q
-  pub wrong_counts : violated_at names mode q rule.N4 ≡ wrong_counts names q
-  pub bases_not_before : violated_at names mode q rule.N5 ≡ bases_not_before names q
+  pub wrong_number_of_arguments : violated_at names mode q rule.N4 ≡ wrong_number_of_arguments names q
+  pub base_not_declared_before : violated_at names mode q rule.N5 ≡ base_not_declared_before names q
   pub not_accessible : violated_at names mode q rule.N6 ≡ not_accessible names q
-  pub addresses : violated_at names mode q rule.N7 ≡ addresses names q
+  pub address_of_no_global_object : violated_at names mode q rule.N7 ≡ address_of_no_global_object names q
   pub not_allowed_here : violated_at names mode q rule.N8 ≡ not_allowed_here names q
   pub no_main : violated_at names mode q rule.N9 ≡ no_main names q
   pub too_many : violated_at names mode q rule.N10 ≡ too_many names mode q

@@ -19,8 +19,8 @@ limit m form.params = most_params
 limit m form.locals = m.locals
 limit m form.returns = m.returns
 
-abbrev pub surplus : Counts → Form → Option Place
-surplus m (form.counted kind before at) = unless (not (nat_eq before (limit m kind))) at
-surplus m (form.text q) = unless (not (nat_lt most_bytes (length q.bytes))) q.at
-surplus m (form.names q) = name_past m.names q
-surplus m _ = None
+abbrev pub too_many_at : Counts → Form → Option Place
+too_many_at m (form.counted kind before at) = unless (not (nat_eq before (limit m kind))) at
+too_many_at m (form.text q) = unless (not (nat_lt most_bytes (length q.bytes))) q.at
+too_many_at m (form.names q) = name_past m.names q
+too_many_at m _ = None

@@ -20,7 +20,7 @@ use Rattle.cxx_names.specs.declared.types.ValueType.TheVariants as value
 use Rattle.cxx_names.specs.LookUp.{thing_of}
 use Rattle.cxx_types.specs.declared.context.Holder.{Holder}
 use Rattle.cxx_types.specs.declared.context.Holder.TheVariants as holder
-use Rattle.cxx_types.specs.Called.{Callable}
+use Rattle.cxx_types.specs.Callable.{Callable}
 use Rattle.cxx_types.specs.Conversion.{may_convert, binary_type, unary_type, cast_type, truth}
 use Rattle.cxx_types.specs.Selections.{value_of}
 use Rattle.cxx_types.specs.Calls.{counts, access_of, unknown, result_type}

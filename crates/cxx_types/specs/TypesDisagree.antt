@@ -99,23 +99,23 @@ abbrev pub mutex_initialised : Site → Place → Option MemberInfo → Option P
 mutex_initialised w at None = None
 mutex_initialised w at (Some m) = unless (is_value (thing_of w.declared m.type_name)) at
 
-abbrev pub mistyped : Form → Option Place
-mistyped (form.variable w r) = unless (is_value (thing_held w r)) r.node.at
-mistyped (form.base w at b) = no_members w at b
-mistyped (form.member w at q) = behind_is_no_value w at q.name (holder_of w q.base)
-mistyped (form.call w n callee count as_value) = call_no_result w n callee as_value
-mistyped (form.operand w n o x) = unless (takes_one o (type_of_expr w x)) n.at
-mistyped (form.operands w o a b) = unless (takes w.declared o.item (type_of_expr w a) (type_of_expr w b)) o.at
-mistyped (form.cast w t x) = unless (casts (kind_of t) (type_of_expr w x)) (expr_node x).at
-mistyped (form.argument w p x) = unless (may_convert w.declared (type_of_expr w x) (type_of_param w.declared p)) (expr_node x).at
-mistyped (form.initial w t i) = unless (may_convert w.declared (type_of_expr w i.value) (value_of (thing_of w.declared t))) i.sign
-mistyped (form.assigned w a) = unless (assigns w.declared a.sign.item (type_of_left w a.left) (type_of_expr w a.value)) a.sign.at
-mistyped (form.bumped w b) = unless (may_be_bumped (type_of_left w b.left)) b.sign
-mistyped (form.returned w at e) = wrongly_returned w w.context.owner at e
-mistyped (form.deleted w at e) = wrongly_deleted at (type_of_expr w e)
-mistyped (form.printed w e) = unless (may_be_printed (type_of_expr w e)) (expr_node e).at
-mistyped (form.started w at r) = has_result r.node.at (free_signature w.declared r.name.item.0)
-mistyped (form.member_initialiser w class name count) = mutex_initialised w name.at (named class.members name.item.0)
-mistyped (form.member_value w name t e) = unless (may_convert w.declared (type_of_expr w e) (value_of (thing_of w.declared t))) name.at
-mistyped (form.constant w t k) = unless (may_convert w.declared (Some (const_type k.item)) (value_of (thing_of w.declared t))) k.at
-mistyped _ = None
+abbrev pub types_disagree_at : Form → Option Place
+types_disagree_at (form.variable w r) = unless (is_value (thing_held w r)) r.node.at
+types_disagree_at (form.base w at b) = no_members w at b
+types_disagree_at (form.member w at q) = behind_is_no_value w at q.name (holder_of w q.base)
+types_disagree_at (form.call w n callee count as_value) = call_no_result w n callee as_value
+types_disagree_at (form.operand w n o x) = unless (takes_one o (type_of_expr w x)) n.at
+types_disagree_at (form.operands w o a b) = unless (takes w.declared o.item (type_of_expr w a) (type_of_expr w b)) o.at
+types_disagree_at (form.cast w t x) = unless (casts (kind_of t) (type_of_expr w x)) (expr_node x).at
+types_disagree_at (form.argument w p x) = unless (may_convert w.declared (type_of_expr w x) (type_of_param w.declared p)) (expr_node x).at
+types_disagree_at (form.initial w t i) = unless (may_convert w.declared (type_of_expr w i.value) (value_of (thing_of w.declared t))) i.sign
+types_disagree_at (form.assigned w a) = unless (assigns w.declared a.sign.item (type_of_left w a.left) (type_of_expr w a.value)) a.sign.at
+types_disagree_at (form.bumped w b) = unless (may_be_bumped (type_of_left w b.left)) b.sign
+types_disagree_at (form.returned w at e) = wrongly_returned w w.context.owner at e
+types_disagree_at (form.deleted w at e) = wrongly_deleted at (type_of_expr w e)
+types_disagree_at (form.printed w e) = unless (may_be_printed (type_of_expr w e)) (expr_node e).at
+types_disagree_at (form.started w at r) = has_result r.node.at (free_signature w.declared r.name.item.0)
+types_disagree_at (form.member_initialiser w class name count) = mutex_initialised w name.at (named class.members name.item.0)
+types_disagree_at (form.member_value w name t e) = unless (may_convert w.declared (type_of_expr w e) (value_of (thing_of w.declared t))) name.at
+types_disagree_at (form.constant w t k) = unless (may_convert w.declared (Some (const_type k.item)) (value_of (thing_of w.declared t))) k.at
+types_disagree_at _ = None

@@ -24,7 +24,7 @@ pub(crate) struct Called<'a> {
 }
 
 impl<'a> Model for Called<'a> {
-    ghost use Rattle.cxx_types.specs.Called.{Callable};
+    ghost use Rattle.cxx_types.specs.Callable.{Callable};
 
     ghost Value = { Callable };
 

@@ -1,4 +1,4 @@
-use Rattle.cxx_types.proofs.Walked as walked
+use Rattle.cxx_types.proofs.EachNode as walked
 use Rattle.cxx_types.proofs.laws.each_node_once.Goals as goal
 
 pub returns : goal.returns

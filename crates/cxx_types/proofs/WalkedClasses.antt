@@ -30,14 +30,14 @@ use Rattle.cxx_types.specs.Forms.{Form}
 use Rattle.cxx_types.specs.ProgramForms.{with_params, forms_of_params, forms_of_inits, forms_without, forms_of_ctor, forms_of_dtor, forms_of_member, forms_of_method, forms_of_item, forms_of_items, forms_of_class, in_function, in_lifecycle}
 use Rattle.cxx_types.specs.Classes.{initialises_base}
 use Rattle.cxx_types.proofs.Told.{told_by, told, all_told, told-append, st, Gives, after, same, required-told}
-use Rattle.cxx_types.proofs.Scopes.{variable_type-gives, no_class-gives}
-use Rattle.cxx_types.proofs.Functions.{bare, params-gives, body-gives, function-gives}
-use Rattle.cxx_types.proofs.Inits.{inits-gives, without-gives}
+use Rattle.cxx_types.proofs.WalkedLocals.{variable_type-gives, no_class-gives}
+use Rattle.cxx_types.proofs.WalkedFunctions.{bare, params-gives, body-gives, function-gives}
+use Rattle.cxx_types.proofs.WalkedInitialisers.{inits-gives, without-gives}
 
 -- ---- constructors and destructors
 
 begins-gives : (m : Counts) (w : Site) (fs : List Refusal) (es : List Entry) (k : ℕ) → length es ≡ k → (info : ClassInfo) (is_second : Bool) (name : Placed NameId)
-    → Gives (λ s. s) m w (all_told m (form.again is_second name ∷ form.lifecycle info name ∷ []) fs) k
+    → Gives (λ s. s) m w (all_told m (form.second is_second name ∷ form.lifecycle info name ∷ []) fs) k
     (of_class info name (required rule.N2 name.at (not is_second) (st m w fs es)))
 begins-gives m w fs es k h info is_second name = simp required-told (record { entries = es; is = refl; longer = h })
 

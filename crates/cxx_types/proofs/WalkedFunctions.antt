@@ -21,9 +21,9 @@ use Rattle.cxx_types.specs.Forms.{Form}
 use Rattle.cxx_types.specs.StmtForms.{forms_of_body}
 use Rattle.cxx_types.specs.ProgramForms.{with_param, with_params, forms_of_params, forms_of_function}
 use Rattle.cxx_types.proofs.Told.{all_told, told-append, st, Gives, after, same, moved, required-told}
-use Rattle.cxx_types.proofs.Scopes.{variable_type-gives, result_type-gives, param_declared-gives}
-use Rattle.cxx_types.proofs.Stmts.{stmts-gives}
-use Rattle.cxx_types.proofs.Beyond.{placed, left-function}
+use Rattle.cxx_types.proofs.WalkedLocals.{variable_type-gives, result_type-gives, param_declared-gives}
+use Rattle.cxx_types.proofs.WalkedStatements.{stmts-gives}
+use Rattle.cxx_types.proofs.SitesBehind.{placed, left-function}
 
 -- outside of functions
 abbrev pub bare : Site → Site

@@ -52,16 +52,16 @@ abbrev pub unknown_pointed : Site → Placed TypeName → TypeName → Option Pl
 unknown_pointed w t (type_name.Pointer class) = unless (is_some (class_named w.declared class.0)) t.at
 unknown_pointed w t _ = None
 
-abbrev pub unknown : Form → Option Place
-unknown (form.variable w r) = unknown_variable w r
-unknown (form.base w at b) = unknown_base w b
-unknown (form.member w at q) = unknown_member w q.name (holder_of w q.base)
-unknown (form.call w n callee count as_value) = unknown_callee w callee
-unknown (form.creation w name count) = unless (is_some (class_meant w name)) name.at
-unknown (form.variable_type w t) = unknown_pointed w t t.item
-unknown (form.result_type w t) = unknown_pointed w t t.item
-unknown (form.started w at r) = unless (is_some (free_signature w.declared r.name.item.0)) r.name.at
-unknown (form.member_initialiser w class name count) = unless (is_some (named class.members name.item.0)) name.at
-unknown (form.lifecycle class name) = unless (same_name class.name.item name) name.at
-unknown (form.object w o) = unless (is_some (class_meant w o.class)) o.class.at
-unknown _ = None
+abbrev pub unknown_name_at : Form → Option Place
+unknown_name_at (form.variable w r) = unknown_variable w r
+unknown_name_at (form.base w at b) = unknown_base w b
+unknown_name_at (form.member w at q) = unknown_member w q.name (holder_of w q.base)
+unknown_name_at (form.call w n callee count as_value) = unknown_callee w callee
+unknown_name_at (form.creation w name count) = unless (is_some (class_meant w name)) name.at
+unknown_name_at (form.variable_type w t) = unknown_pointed w t t.item
+unknown_name_at (form.result_type w t) = unknown_pointed w t t.item
+unknown_name_at (form.started w at r) = unless (is_some (free_signature w.declared r.name.item.0)) r.name.at
+unknown_name_at (form.member_initialiser w class name count) = unless (is_some (named class.members name.item.0)) name.at
+unknown_name_at (form.lifecycle class name) = unless (same_name class.name.item name) name.at
+unknown_name_at (form.object w o) = unless (is_some (class_meant w o.class)) o.class.at
+unknown_name_at _ = None

@@ -15,7 +15,7 @@ use Rattle.cxx_types.specs.declared.entry.Entry.{Entry}
 use Rattle.cxx_types.specs.declared.limits.Counts.{Counts}
 use Rattle.cxx_types.specs.Locals.{variable_type, variable_type_by, result_type, result_type_by, class_by, apart_from, no_class, own_name, in_scope, counted_local, local_declared, param_declared}
 use Rattle.cxx_types.specs.Sites.{Site, class_meant}
-use Rattle.cxx_types.specs.UnknownNames.{unknown_pointed}
+use Rattle.cxx_types.specs.UnknownName.{unknown_pointed}
 use Rattle.cxx_types.specs.DeclaredTwice.{later_of, info_of}
 use Rattle.cxx_types.specs.NotAllowedHere.{void_variable}
 use Rattle.cxx_types.specs.Forms as form

@@ -6,6 +6,6 @@ use Rattle.cxx_types.specs.Forms as form
 use Rattle.cxx_types.specs.Forms.{Form}
 use Rattle.cxx_types.specs.Unless.{unless}
 
-abbrev pub homeless : Form → Option Place
-homeless (form.address w n operand) = unless (is_some (object_of w operand)) n.at
-homeless _ = None
+abbrev pub address_of_no_global_object_at : Form → Option Place
+address_of_no_global_object_at (form.address w n operand) = unless (is_some (object_of w operand)) n.at
+address_of_no_global_object_at _ = None

@@ -24,8 +24,8 @@ use Rattle.cxx_types.specs.Selections.{read, value_of, holder, base_node, member
 use Rattle.cxx_types.specs.Expressions.{left}
 use Rattle.cxx_types.specs.Sites.{Site, thing_held, holder_of, member_meant}
 use Rattle.cxx_types.specs.Types.{member_type, member_type_by, type_of_left}
-use Rattle.cxx_types.specs.UnknownNames.{unknown_member}
-use Rattle.cxx_types.specs.NotAccessible.{member_hidden, member_hidden_by}
+use Rattle.cxx_types.specs.UnknownName.{unknown_member}
+use Rattle.cxx_types.specs.NotAccessible.{member_not_accessible, member_not_accessible_by}
 use Rattle.cxx_types.specs.NotAllowedHere.{no_member_value}
 use Rattle.cxx_types.specs.TypesDisagree.{behind_is_no_value, member_is_no_value}
 use Rattle.cxx_types.specs.Unless.{unless}
@@ -57,14 +57,14 @@ base_node-gives m w fs es k h (base_of.Arrow r) = same refl (omega arith) (recor
 -- a member of a class
 member-of-class : (m : Counts) (w : Site) (fs : List Refusal) (es : List Entry) (k : ℕ) → length es ≡ k → (at : Place) (name : Placed NameId) (class : ClassId) (x : Option (ClassId × MemberInfo))
     → Gives (λ s. (s, member_type_by w class x)) m w
-    (told_by rule.N3 (member_is_no_value w at class x) (told_by rule.N6 (member_hidden_by w name.at class x) (told_by rule.N1 (unless (is_some x) name.at) fs)))
+    (told_by rule.N3 (member_is_no_value w at class x) (told_by rule.N6 (member_not_accessible_by w name.at class x) (told_by rule.N1 (unless (is_some x) name.at) fs)))
     (suc k) (member_by w.context at name class x (st m w fs es))
 member-of-class m w fs es k h at name class None = record { entries = _; is = refl; longer = one-more es _ h }
 member-of-class m w fs es k h at name class (Some x) = simp required-told (record { entries = _; is = refl; longer = one-more es _ h })
 
 member-gives : (m : Counts) (w : Site) (fs : List Refusal) (es : List Entry) (k : ℕ) → length es ≡ k → (at : Place) (name : Placed NameId) (b : Holder)
     → Gives (λ s. (s, member_type w name b)) m w
-    (told_by rule.N3 (behind_is_no_value w at name b) (told_by rule.N8 (no_member_value w at name b) (told_by rule.N6 (member_hidden w name b) (told_by rule.N1 (unknown_member w name b) fs))))
+    (told_by rule.N3 (behind_is_no_value w at name b) (told_by rule.N8 (no_member_value w at name b) (told_by rule.N6 (member_not_accessible w name b) (told_by rule.N1 (unknown_member w name b) fs))))
     (suc k) (member w.context at name b (st m w fs es))
 unfolding member
 member-gives m w fs es k h at name (holder_is.Class class) = member-of-class m w fs es k h at name class (member_meant w class name)

@@ -12,9 +12,9 @@ use Rattle.cxx_types.specs.Sites.{Site}
 use Rattle.cxx_types.specs.Forms.{forms_of}
 use Rattle.cxx_types.specs.StmtForms.{forms_of_optional, forms_of_simple, forms_of_start, forms_of_stmt, forms_of_stmts, forms_of_block, forms_of_if, forms_of_else, further, behind, behind_start, locals_in_block, returns_in_block, locals_in_if, returns_in_if, locals_in_else, returns_in_else}
 use Rattle.cxx_types.proofs.Told.{all_told, told-append, st, Gives, after, same, moved}
-use Rattle.cxx_types.proofs.Exprs.{expr-gives}
-use Rattle.cxx_types.proofs.Simples.{local-gives, simple-gives, returned-gives, deleted-gives, all_printed-gives, thread-gives}
-use Rattle.cxx_types.proofs.Beyond.{placed-same, stays, further-twice, behind_stmts, left-block, left-start}
+use Rattle.cxx_types.proofs.WalkedExpressions.{expr-gives}
+use Rattle.cxx_types.proofs.WalkedSimpleStatements.{local-gives, simple-gives, returned-gives, deleted-gives, all_printed-gives, thread-gives}
+use Rattle.cxx_types.proofs.SitesBehind.{placed-same, stays, further-twice, behind_stmts, left-block, left-start}
 
 -- ---- the head of a `for`
 

@@ -5,6 +5,6 @@ use Rattle.cxx_types.specs.Forms as form
 use Rattle.cxx_types.specs.Forms.{Form}
 use Rattle.cxx_types.specs.Unless.{unless}
 
-abbrev pub baseless : Form → Option Place
-baseless (form.head w (Some name) class) = unless (is_some class.base) name.at
-baseless _ = None
+abbrev pub base_not_declared_before_at : Form → Option Place
+base_not_declared_before_at (form.head w (Some name) class) = unless (is_some class.base) name.at
+base_not_declared_before_at _ = None

@@ -12,7 +12,7 @@ use Rattle.cxx_names.specs.Declarations.{declared, with_decl, with_decls, empty,
 use Rattle.cxx_types.specs.declared.programs.DeclsSeen.{DeclsSeen}
 use Rattle.cxx_types.specs.Programs.{next_seen, none_seen}
 use Rattle.cxx_types.specs.Laws.{EachNodeOnce}
-use Rattle.cxx_types.proofs.Decls.{nodes_known, nodes_walked, all_nodes_walked, checked-gives}
+use Rattle.cxx_types.proofs.WalkedPrograms.{nodes_known, nodes_walked, all_nodes_walked, checked-gives}
 
 abbrev class_count : DeclTree → ℕ
 class_count (p.class x) = 1

@@ -24,16 +24,16 @@ use Rattle.cxx_types.specs.Selections.{base_node}
 use Rattle.cxx_types.specs.Calls.{called, called_behind, bare_by, method_by, created, created_by, constructed}
 use Rattle.cxx_types.specs.Sites.{Site, holder_of, method_meant, function_meant, class_meant, ctor_meant, is_usable}
 use Rattle.cxx_types.specs.Types.{callable, bare_function, function_behind, method, creatable, creatable_by, constructor}
-use Rattle.cxx_types.specs.UnknownNames.{unknown_method}
-use Rattle.cxx_types.specs.NotAccessible.{function_hidden, method_hidden, method_hidden_by, constructor_hidden}
+use Rattle.cxx_types.specs.UnknownName.{unknown_method}
+use Rattle.cxx_types.specs.NotAccessible.{function_not_accessible, method_not_accessible, method_not_accessible_by, constructor_not_accessible}
 use Rattle.cxx_types.specs.NotAllowedHere.{main_called, no_call_value}
 use Rattle.cxx_types.specs.TypesDisagree.{function_no_result, method_no_result, behind_no_result}
-use Rattle.cxx_types.specs.WrongCounts.{miscounted_by, function_miscounted, method_miscounted, behind_miscounted, creation_miscounted}
+use Rattle.cxx_types.specs.WrongNumberOfArguments.{wrong_number_by, function_wrong_number, method_wrong_number, behind_wrong_number, creation_wrong_number}
 use Rattle.cxx_types.specs.Unless.{unless}
 use Rattle.cxx_types.specs.Forms as form
 use Rattle.cxx_types.specs.Forms.{Form, forms_of_callee}
 use Rattle.cxx_types.proofs.Told.{told_by, told, all_told, st, Gives, after, same, one-more, required-told}
-use Rattle.cxx_types.proofs.Names.{holder-gives, base_node-gives}
+use Rattle.cxx_types.proofs.WalkedSelections.{holder-gives, base_node-gives}
 
 two-more : {k : ℕ} (es : List Entry) (a b : Entry) → length es ≡ k → length ((es ++ a ∷ []) ++ b ∷ []) ≡ suc (suc k)
 two-more es a b h = one-more (es ++ a ∷ []) b (one-more es a h)
@@ -41,8 +41,8 @@ two-more es a b h = one-more (es ++ a ∷ []) b (one-more es a h)
 -- by the name alone
 bare-gives : (m : Counts) (w : Site) (fs : List Refusal) (es : List Entry) (k : ℕ) → length es ≡ k → (n : Node) (r : Ref) (count : ℕ) (as_value : Bool) (x : Option (Option ClassId × Signature))
     → Gives (λ s. (s, bare_function w count x)) m w
-    (told_by rule.N3 (function_no_result n as_value x) (told_by rule.N4 (function_miscounted r.name.at count x)
-    (told_by rule.N8 (main_called n.at x) (told_by rule.N6 (function_hidden w r.name.at x) (told_by rule.N1 (unless (is_some x) r.name.at) fs)))))
+    (told_by rule.N3 (function_no_result n as_value x) (told_by rule.N4 (function_wrong_number r.name.at count x)
+    (told_by rule.N8 (main_called n.at x) (told_by rule.N6 (function_not_accessible w r.name.at x) (told_by rule.N1 (unless (is_some x) r.name.at) fs)))))
     (suc (suc k)) (bare_by w.context n r count as_value x (st m w fs es))
 bare-gives m w fs es k h n r count as_value None = record { entries = _; is = refl; longer = two-more es _ _ h }
 bare-gives m w fs es k h n r count as_value (Some x) = simp required-told (record { entries = _; is = refl; longer = two-more es _ _ h })
@@ -50,16 +50,16 @@ bare-gives m w fs es k h n r count as_value (Some x) = simp required-told (recor
 -- behind what has functions
 method-gives : (m : Counts) (w : Site) (fs : List Refusal) (es : List Entry) (k : ℕ) → length es ≡ k → (n : Node) (name : Placed NameId) (class : ClassId) (count : ℕ) (as_value : Bool) (x : Option (ClassId × Signature))
     → Gives (λ s. (s, method w class count x)) m w
-    (told_by rule.N3 (method_no_result n as_value x) (told_by rule.N4 (method_miscounted name.at count x)
-    (told_by rule.N6 (method_hidden_by w name.at class x) (told_by rule.N1 (unless (is_some x) name.at) fs))))
+    (told_by rule.N3 (method_no_result n as_value x) (told_by rule.N4 (method_wrong_number name.at count x)
+    (told_by rule.N6 (method_not_accessible_by w name.at class x) (told_by rule.N1 (unless (is_some x) name.at) fs))))
     (suc k) (method_by w.context n name class count as_value x (st m w fs es))
 method-gives m w fs es k h n name class count as_value None = record { entries = _; is = refl; longer = one-more es _ h }
 method-gives m w fs es k h n name class count as_value (Some x) = simp required-told (record { entries = _; is = refl; longer = one-more es _ h })
 
 behind-gives : (m : Counts) (w : Site) (fs : List Refusal) (es : List Entry) (k : ℕ) → length es ≡ k → (n : Node) (name : Placed NameId) (count : ℕ) (as_value : Bool) (b : Holder)
     → Gives (λ s. (s, function_behind w name count b)) m w
-    (told_by rule.N3 (behind_no_result w n name as_value b) (told_by rule.N4 (behind_miscounted w name count b)
-    (told_by rule.N8 (no_call_value w n name as_value b) (told_by rule.N6 (method_hidden w name b) (told_by rule.N1 (unknown_method w name b) fs)))))
+    (told_by rule.N3 (behind_no_result w n name as_value b) (told_by rule.N4 (behind_wrong_number w name count b)
+    (told_by rule.N8 (no_call_value w n name as_value b) (told_by rule.N6 (method_not_accessible w name b) (told_by rule.N1 (unknown_method w name b) fs)))))
     (suc k) (called_behind w.context n name count as_value b (st m w fs es))
 behind-gives m w fs es k h n name count as_value (holder_is.Class class) = method-gives m w fs es k h n name class count as_value (method_meant w class name)
 behind-gives m w fs es k h n name count as_value holder_is.Thread = simp required-told (record { entries = _; is = refl; longer = one-more es _ h })
@@ -82,14 +82,14 @@ called-gives m w fs es k h n (callee_of.Member q) count as_value =
 -- a constructor is used
 pub constructed-gives : (m : Counts) (w : Site) (fs : List Refusal) (es : List Entry) (k : ℕ) → length es ≡ k → (class : ClassId) (at : Place) (count : ℕ) (x : Option Signature)
     → Gives (λ s. (s, constructor w class count x)) m w
-    (told_by rule.N4 (miscounted_by at count x) (told_by rule.N6 (unless (is_usable w class x) at) fs))
+    (told_by rule.N4 (wrong_number_by at count x) (told_by rule.N6 (unless (is_usable w class x) at) fs))
     k (constructed w.context.class class at count x (st m w fs es))
 constructed-gives m w fs es k h class at count None = record { entries = es; is = refl; longer = h }
 constructed-gives m w fs es k h class at count (Some x) = simp required-told (record { entries = _; is = refl; longer = h })
 
 created_by-gives : (m : Counts) (w : Site) (fs : List Refusal) (es : List Entry) (k : ℕ) → length es ≡ k → (name : Placed NameId) (count : ℕ) (x : Option ClassId)
     → Gives (λ s. (s, creatable_by w count x)) m w
-    (told_by rule.N4 (creation_miscounted w name.at count x) (told_by rule.N6 (constructor_hidden w name.at x) (told_by rule.N1 (unless (is_some x) name.at) fs)))
+    (told_by rule.N4 (creation_wrong_number w name.at count x) (told_by rule.N6 (constructor_not_accessible w name.at x) (told_by rule.N1 (unless (is_some x) name.at) fs)))
     (suc k) (created_by w.context name count x (st m w fs es))
 created_by-gives m w fs es k h name count None = record { entries = _; is = refl; longer = one-more es _ h }
 created_by-gives m w fs es k h name count (Some class) =

@@ -29,8 +29,8 @@ use Rattle.cxx_types.specs.Unless.{unless}
 use Rattle.cxx_types.specs.Forms as form
 use Rattle.cxx_types.specs.Forms.{Form, forms_of, forms_of_callee, forms_of_arguments, forms_of_call, unless_object}
 use Rattle.cxx_types.proofs.Told.{told_by, told, all_told, told-append, st, Gives, after, same, one-more, required-told}
-use Rattle.cxx_types.proofs.Names.{left-gives}
-use Rattle.cxx_types.proofs.Called.{called-gives, created-gives}
+use Rattle.cxx_types.proofs.WalkedSelections.{left-gives}
+use Rattle.cxx_types.proofs.WalkedCalls.{called-gives, created-gives}
 
 -- the node of an expression whose parts come first
 abbrev blank : Entry

@@ -29,8 +29,8 @@ use Rattle.cxx_types.specs.Classes.{function}
 use Rattle.cxx_types.specs.Programs.{own_decl, initialised, variable, outside, object_by, object, global_item, global_place, global, class_by, decl, next_seen, decls, none_seen, has_main, begun, checked}
 use Rattle.cxx_types.specs.Sites.{Site, class_meant, ctor_meant}
 use Rattle.cxx_types.specs.Types.{creatable_by, constructor}
-use Rattle.cxx_types.specs.WrongCounts.{creation_miscounted}
-use Rattle.cxx_types.specs.NotAccessible.{constructor_hidden, destructor_hidden}
+use Rattle.cxx_types.specs.WrongNumberOfArguments.{creation_wrong_number}
+use Rattle.cxx_types.specs.NotAccessible.{constructor_not_accessible, destructor_not_accessible}
 use Rattle.cxx_types.specs.Unless.{unless}
 use Rattle.cxx_types.specs.Forms as form
 use Rattle.cxx_types.specs.Forms.{Form, Kind, forms_of_arguments}
@@ -38,12 +38,12 @@ use Rattle.cxx_types.specs.StmtForms.{forms_of_optional}
 use Rattle.cxx_types.specs.TooMany.{limit}
 use Rattle.cxx_types.specs.ProgramForms.{forms_of_constant, forms_of_global, forms_of_class, forms_of_decl, forms_of_decls, in_function, in_decl, in_class, top}
 use Rattle.cxx_types.proofs.Told.{told_by, told, all_told, told-append, st, Gives, after, same, required-told}
-use Rattle.cxx_types.proofs.Called.{constructed-gives}
-use Rattle.cxx_types.proofs.Exprs.{exprs-gives}
-use Rattle.cxx_types.proofs.Simples.{dtor-gives}
-use Rattle.cxx_types.proofs.Scopes.{variable_type-gives}
-use Rattle.cxx_types.proofs.Functions.{bare, function-gives}
-use Rattle.cxx_types.proofs.Items.{class-gives}
+use Rattle.cxx_types.proofs.WalkedCalls.{constructed-gives}
+use Rattle.cxx_types.proofs.WalkedExpressions.{exprs-gives}
+use Rattle.cxx_types.proofs.WalkedSimpleStatements.{dtor-gives}
+use Rattle.cxx_types.proofs.WalkedLocals.{variable_type-gives}
+use Rattle.cxx_types.proofs.WalkedFunctions.{bare, function-gives}
+use Rattle.cxx_types.proofs.WalkedClasses.{class-gives}
 
 -- ---- globals
 
@@ -55,9 +55,9 @@ constant-gives m w fs es k h t (Some x) = simp required-told (record { entries =
 object-by : (m : Counts) (w : Site) (fs : List Refusal) (es : List Entry) (k : ℕ) → length es ≡ k → (index : ℕ) (o : ObjectTree) (x : Option ClassId)
     → Gives (λ s. s) m (in_decl w index)
     (all_told m (forms_of_arguments (in_decl w index) (creatable_by (in_decl w index) (count o.arguments) x).params o.arguments)
-    (told_by rule.N6 (destructor_hidden (in_decl w index) o.name.at x)
-    (told_by rule.N4 (creation_miscounted (in_decl w index) o.name.at (count o.arguments) x)
-    (told_by rule.N6 (constructor_hidden (in_decl w index) o.name.at x)
+    (told_by rule.N6 (destructor_not_accessible (in_decl w index) o.name.at x)
+    (told_by rule.N4 (creation_wrong_number (in_decl w index) o.name.at (count o.arguments) x)
+    (told_by rule.N6 (constructor_not_accessible (in_decl w index) o.name.at x)
     (told_by rule.N1 (unless (is_some x) o.class.at) fs)))))
     (k + nodes_in_exprs o.arguments) (object_by index o x (st m (in_decl w index) fs es))
 object-by m w fs es k h index o None =

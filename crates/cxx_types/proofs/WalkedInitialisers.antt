@@ -29,13 +29,13 @@ use Rattle.cxx_types.specs.Classes.{uses_object, any_uses_object, either, base_a
 use Rattle.cxx_types.specs.NotAllowedHere.{uses_members, any_uses_members}
 use Rattle.cxx_types.specs.Sites.{Site}
 use Rattle.cxx_types.specs.TypesDisagree.{mutex_initialised}
-use Rattle.cxx_types.specs.WrongCounts.{member_miscounted}
+use Rattle.cxx_types.specs.WrongNumberOfArguments.{member_wrong_number}
 use Rattle.cxx_types.specs.Unless.{unless}
 use Rattle.cxx_types.specs.Forms as form
 use Rattle.cxx_types.specs.Forms.{Form, forms_of, forms_of_arguments}
 use Rattle.cxx_types.specs.ProgramForms.{forms_of_base_arguments, forms_of_base_init, forms_of_values, forms_of_init, forms_of_inits, forms_without}
 use Rattle.cxx_types.proofs.Told.{told_by, told, all_told, told-append, st, Gives, after, same, required-told}
-use Rattle.cxx_types.proofs.Exprs.{expr-gives, exprs-gives}
+use Rattle.cxx_types.proofs.WalkedExpressions.{expr-gives, exprs-gives}
 
 -- ---- arguments of a base
 
@@ -101,7 +101,7 @@ values-gives m w fs es k h name x (e.more_exprs first rest) =
 member-gives : (m : Counts) (w : Site) (fs : List Refusal) (es : List Entry) (k : ℕ) → length es ≡ k → (i : InitTree) (x : Option MemberInfo)
     → Gives (λ s. s) m w
     (all_told m (forms_of_values w i.name x i.arguments)
-    (told_by rule.N3 (mutex_initialised w i.name.at x) (told_by rule.N4 (member_miscounted i.name.at (count i.arguments) x) (told_by rule.N1 (unless (is_some x) i.name.at) fs))))
+    (told_by rule.N3 (mutex_initialised w i.name.at x) (told_by rule.N4 (member_wrong_number i.name.at (count i.arguments) x) (told_by rule.N1 (unless (is_some x) i.name.at) fs))))
     (k + nodes_in_init i) (member_init w.context i x (st m w fs es))
 member-gives m w fs es k h i None =
     after (λ y. y.0) (exprs-gives m w [] true i.arguments _ es k h) (λ es1 h1. record { entries = es1; is = refl; longer = h1 })

@@ -37,17 +37,17 @@ use Rattle.cxx_types.specs.Statements.{initial, local, simple, assigned, may_ass
 use Rattle.cxx_types.specs.Sites.{Site, is_usable, dtor_meant}
 use Rattle.cxx_types.specs.Types.{type_of_expr, type_of_left}
 use Rattle.cxx_types.specs.TypesDisagree.{assigns, wrongly_returned, wrongly_deleted, has_result}
-use Rattle.cxx_types.specs.NotAllowedHere.{return_misplaced, main_started}
-use Rattle.cxx_types.specs.NotAccessible.{deleted_hidden}
-use Rattle.cxx_types.specs.WrongCounts.{miscounted_by}
+use Rattle.cxx_types.specs.NotAllowedHere.{return_not_allowed, main_started}
+use Rattle.cxx_types.specs.NotAccessible.{deleted_not_accessible}
+use Rattle.cxx_types.specs.WrongNumberOfArguments.{wrong_number_by}
 use Rattle.cxx_types.specs.Unless.{unless}
 use Rattle.cxx_types.specs.Forms as form
 use Rattle.cxx_types.specs.Forms.{Form, forms_of, forms_of_left, forms_of_call, forms_of_arguments}
 use Rattle.cxx_types.specs.StmtForms.{forms_of_optional, forms_of_initial, forms_of_local, forms_of_simple, forms_of_return, forms_of_printed, forms_of_print, forms_of_thread, params_of, scope_behind_local}
 use Rattle.cxx_types.proofs.Told.{told_by, told, all_told, told-append, st, Gives, after, same, moved, one-more, required-told}
-use Rattle.cxx_types.proofs.Names.{left-gives}
-use Rattle.cxx_types.proofs.Exprs.{expr-gives, exprs-gives, call-gives}
-use Rattle.cxx_types.proofs.Scopes.{variable_type-gives, local_declared-gives}
+use Rattle.cxx_types.proofs.WalkedSelections.{left-gives}
+use Rattle.cxx_types.proofs.WalkedExpressions.{expr-gives, exprs-gives, call-gives}
+use Rattle.cxx_types.proofs.WalkedLocals.{variable_type-gives, local_declared-gives}
 
 -- ---- locals
 
@@ -98,13 +98,13 @@ simple-gives m w fs es k h (t.proceed at) = record { entries = es; is = refl; lo
 -- ---- `return`
 
 nothing-gives : (m : Counts) (w : Site) (fs : List Refusal) (es : List Entry) (k : ℕ) → length es ≡ k → (at : Place) (o : Owner)
-    → Gives (λ s. s) m w (told_by rule.N3 (wrongly_returned w o at None) (told_by rule.N8 (return_misplaced at o) fs)) k (returned_nothing o at (st m w fs es))
+    → Gives (λ s. s) m w (told_by rule.N3 (wrongly_returned w o at None) (told_by rule.N8 (return_not_allowed at o) fs)) k (returned_nothing o at (st m w fs es))
 nothing-gives m w fs es k h at (owner.Function type) = simp required-told (record { entries = es; is = refl; longer = h })
 nothing-gives m w fs es k h at owner.Lifecycle = record { entries = es; is = refl; longer = h }
 nothing-gives m w fs es k h at owner.Global = record { entries = es; is = refl; longer = h }
 
 value-gives : (m : Counts) (w : Site) (fs : List Refusal) (es : List Entry) (k : ℕ) → length es ≡ k → (at : Place) (e : ExprTree) (o : Owner)
-    → Gives (λ s. s) m w (told_by rule.N3 (wrongly_returned w o at (Some e)) (told_by rule.N8 (return_misplaced at o) fs)) k (returned_value o at (st m w fs es, type_of_expr w e))
+    → Gives (λ s. s) m w (told_by rule.N3 (wrongly_returned w o at (Some e)) (told_by rule.N8 (return_not_allowed at o) fs)) k (returned_value o at (st m w fs es, type_of_expr w e))
 value-gives m w fs es k h at e (owner.Function type) = simp required-told (record { entries = es; is = refl; longer = h })
 value-gives m w fs es k h at e owner.Lifecycle = record { entries = es; is = refl; longer = h }
 value-gives m w fs es k h at e owner.Global = record { entries = es; is = refl; longer = h }
@@ -140,7 +140,7 @@ pub dtor-gives : (m : Counts) (w : Site) (fs : List Refusal) (es : List Entry) (
 dtor-gives m w fs es k h class at = usable-gives m w fs es k h class at (dtor_meant w class)
 
 type-gives : (m : Counts) (w : Site) (fs : List Refusal) (es : List Entry) (k : ℕ) → length es ≡ k → (at : Place) (x : Option ValueType)
-    → Gives (λ s. s) m w (told_by rule.N3 (wrongly_deleted at x) (told_by rule.N6 (deleted_hidden w at x) fs)) k (deleted_type w.context at x (st m w fs es))
+    → Gives (λ s. s) m w (told_by rule.N3 (wrongly_deleted at x) (told_by rule.N6 (deleted_not_accessible w at x) fs)) k (deleted_type w.context at x (st m w fs es))
 type-gives m w fs es k h at None = record { entries = es; is = refl; longer = h }
 type-gives m w fs es k h at (Some (value.Pointer class)) = dtor-gives m w fs es k h class at
 type-gives m w fs es k h at (Some _) = record { entries = es; is = refl; longer = h }
@@ -182,7 +182,7 @@ runs-gives m w fs es k h at r arguments f = simp required-told (record { entries
 started-gives : (m : Counts) (w : Site) (fs : List Refusal) (es : List Entry) (k : ℕ) → length es ≡ k → (at : Place) (r : Ref) (arguments : ExprTrees) (x : Option Signature)
     → Gives (λ s. s) m w
     (all_told m (forms_of_arguments w (params_of x) arguments)
-    (told_by rule.N4 (miscounted_by r.name.at (count arguments) x)
+    (told_by rule.N4 (wrong_number_by r.name.at (count arguments) x)
     (told_by rule.N3 (has_result r.node.at x) (told_by rule.N8 (main_started at x) (told_by rule.N1 (unless (is_some x) r.name.at) fs)))))
     (k + suc (nodes_in_exprs arguments)) (started w.context at r arguments x (st m w fs es))
 started-gives m w fs es k h at r arguments None =
