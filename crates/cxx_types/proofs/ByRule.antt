@@ -1,14 +1,16 @@
 -- What all rules say together, rule by rule.
-use Rattle.std.proofs.Common.{◌≡◌, refl, ap, sym, ◌∙◌, Bool, true, false, nat_eq, List, [], ◌∷◌, ◌++◌, map, Option, Some, None, append_assoc, if◌then◌else◌}
+use Rattle.std.proofs.Common.{◌≡◌, refl, ap, sym, ◌∙◌, ℕ, ◌≤◌, arith, Bool, true, false, not, nat_eq, List, [], ◌∷◌, ◌++◌, map, Option, Some, None, append_assoc, if◌then◌else◌}
 use Rattle.std.proofs.lemmas.List.{append-nil, map-append}
 use Rattle.std.proofs.lemmas.List.Elements.{filter-append}
+use Rattle.std.proofs.lemmas.Bool.Decides.{nat_tests}
 use Rattle.std.specs.List.{filter}
+use Rattle.std.specs.Prelude.{nat_lt}
+use Rattle.agxx_base.specs.Refusals.{rank}
 use Rattle.agxx_base.specs.declared.fault.Refusal.{Refusal}
 use Rattle.agxx_base.specs.declared.place.Place.{Place}
 use Rattle.agxx_base.specs.declared.rule.Rule.{Rule}
 use Rattle.agxx_base.specs.declared.rule.Rule.TheVariants as rule
 use Rattle.cxx_types.specs.declared.limits.Counts.{Counts}
-use Rattle.cxx_types.specs.Violations.{rank}
 use Rattle.cxx_types.specs.Forms.{Form}
 use Rattle.cxx_types.specs.Unless.{with_place, places_in}
 use Rattle.cxx_types.specs.UnknownName.{unknown_name_at}
@@ -21,7 +23,7 @@ use Rattle.cxx_types.specs.AddressOfNoGlobalObject.{address_of_no_global_object_
 use Rattle.cxx_types.specs.NotAllowedHere.{not_allowed_here_at}
 use Rattle.cxx_types.specs.NoMain.{no_main_at}
 use Rattle.cxx_types.specs.TooMany.{too_many_at}
-use Rattle.cxx_types.specs.Rules.{is_of, place_of}
+use Rattle.cxx_types.specs.Rules.{is_on_names_and_types, is_of, place_of}
 use Rattle.cxx_types.proofs.Told.{told_by, told, all_told}
 
 -- the places of a rule's violations
@@ -86,8 +88,23 @@ too_many-says m form fs = simp (at-by, append-nil)
 abbrev pub silent : Form → Option Place
 silent form = None
 
-pub silent-says : (m : Counts) (r : Rule) → rank r ≡ 0 → Says m r silent
-silent-says m r e form fs = simp (at-by, e, append-nil)
+-- the rank of each rule from N1 to N10 is not that of another rule
+apart : (k n : ℕ) → (if nat_lt n 15 then false else not (nat_lt 24 n)) ≡ false → 15 ≤ k → k ≤ 24 → nat_eq k n ≡ false
+apart k n e above below = grind (arith, nat_tests)
+
+pub silent-says : (m : Counts) (r : Rule) → is_on_names_and_types r ≡ false → Says m r silent
+silent-says m r e form fs =
+    let n1 : nat_eq 15 (rank r) ≡ false = apart 15 (rank r) e (omega arith) (omega arith) in
+    let n2 : nat_eq 16 (rank r) ≡ false = apart 16 (rank r) e (omega arith) (omega arith) in
+    let n3 : nat_eq 17 (rank r) ≡ false = apart 17 (rank r) e (omega arith) (omega arith) in
+    let n4 : nat_eq 18 (rank r) ≡ false = apart 18 (rank r) e (omega arith) (omega arith) in
+    let n5 : nat_eq 19 (rank r) ≡ false = apart 19 (rank r) e (omega arith) (omega arith) in
+    let n6 : nat_eq 20 (rank r) ≡ false = apart 20 (rank r) e (omega arith) (omega arith) in
+    let n7 : nat_eq 21 (rank r) ≡ false = apart 21 (rank r) e (omega arith) (omega arith) in
+    let n8 : nat_eq 22 (rank r) ≡ false = apart 22 (rank r) e (omega arith) (omega arith) in
+    let n9 : nat_eq 23 (rank r) ≡ false = apart 23 (rank r) e (omega arith) (omega arith) in
+    let n10 : nat_eq 24 (rank r) ≡ false = apart 24 (rank r) e (omega arith) (omega arith) in
+    simp (at-by, n1, n2, n3, n4, n5, n6, n7, n8, n9, n10, append-nil)
 
 pub silent-places : (forms : List Form) → places_in silent forms ≡ []
 silent-places [] = refl

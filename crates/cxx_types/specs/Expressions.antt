@@ -168,3 +168,7 @@ abbrev mutual
   call c as_value (e.calls n callee arguments) s =
       let f = called c n callee (count arguments) as_value s in
       let x = exprs c f.1.params true arguments f.0 in (x.0, called_type f.1 x.1)
+
+-- `&` with its operand
+abbrev pub address_of : Context → Node → ExprTree → State → Typed
+address_of c n operand s = address_by c n (addressed c operand s) (λ s. expr c operand s) s

@@ -1,7 +1,8 @@
 -- For each rule the places at which a program violates it, each rule by itself: what a rule says of each form that stands
 -- in a program is in a file of its own.
-use Rattle.std.specs.Prelude.{ℕ, ◌≡◌, Bool, nat_eq, List, [], map}
+use Rattle.std.specs.Prelude.{ℕ, ◌≡◌, Bool, false, not, nat_eq, nat_lt, List, [], map, if◌then◌else◌}
 use Rattle.std.specs.List.{filter}
+use Rattle.agxx_base.specs.Refusals.{rank}
 use Rattle.agxx_base.specs.declared.fault.Refusal.{Refusal}
 use Rattle.agxx_base.specs.declared.kind.Mode.{Mode}
 use Rattle.agxx_base.specs.declared.place.Place.{Place}
@@ -9,7 +10,7 @@ use Rattle.agxx_base.specs.declared.rule.Rule.{Rule}
 use Rattle.agxx_base.specs.declared.rule.Rule.TheVariants as rule
 use Rattle.cxx_tree.specs.ProgramTree.{ProgramTree}
 use Rattle.cxx_types.specs.Counts.{most}
-use Rattle.cxx_types.specs.Violations.{rank, violations_of}
+use Rattle.cxx_types.specs.Violations.{violations_of}
 use Rattle.cxx_types.specs.ProgramForms.{forms_of_program}
 use Rattle.cxx_types.specs.Unless.{places_in}
 use Rattle.cxx_types.specs.UnknownName.{unknown_name_at}
@@ -65,6 +66,10 @@ too_many names mode q = places_in (too_many_at (most mode)) (forms_of_program na
 
 -- ---- the law
 
+-- the rules from N1 to N10, which stand side by side among all rules
+abbrev pub is_on_names_and_types : Rule → Bool
+is_on_names_and_types r = if nat_lt (rank r) (rank rule.N1) then false else not (nat_lt (rank rule.N10) (rank r))
+
 abbrev pub is_of : Rule → Refusal → Bool
 is_of rule r = nat_eq (rank r.rule) (rank rule)
 
@@ -88,7 +93,7 @@ pub record EachRule (names : List (List ℕ)) (mode : Mode) (q : ProgramTree) : 
   pub no_main : violated_at names mode q rule.N9 ≡ no_main names q
   pub too_many : violated_at names mode q rule.N10 ≡ too_many names mode q
   -- and no other rule is found to be violated
-  pub others : (other : Rule) → rank other ≡ 0 → violated_at names mode q other ≡ []
+  pub others : (other : Rule) → is_on_names_and_types other ≡ false → violated_at names mode q other ≡ []
 
 abbrev pub EachRuleByItself : Type 0
 EachRuleByItself = (names : List (List ℕ)) (mode : Mode) (q : ProgramTree) → EachRule names mode q

@@ -1,13 +1,7 @@
 //! Laws on definitions alone. Each function does nothing: it carries its law.
 
-ghost use Rattle.cxx_types.specs.Laws.{EachNodeOnce, LeastIsLeast};
+ghost use Rattle.cxx_types.specs.Laws.{EachNodeOnce};
 ghost use Rattle.cxx_types.specs.Rules.{EachRuleByItself};
-
-/// Says that the violation that is told is one of those that there are, that none is before it, and that nothing is told
-/// only where there is none.
-pub fn least_is_least()
-    ensures { LeastIsLeast }
-{}
 
 /// Says that the violations of each rule are exactly those places that the rule, stated by itself, names.
 pub fn each_rule_by_itself()

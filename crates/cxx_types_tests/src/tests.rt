@@ -3,12 +3,12 @@
 ghost use Rattle.std.specs.Prelude.{IfOk, IfSome, IsSome};
 ghost use Rattle.cxx_types.specs.Typing.{text_of};
 
-use crate::{Chains, Meaning, Typed, WordInfo, check};
 use agxx_base::{ClassId, Memory, Mode, NameId, Names, NodeId, NumKind, Place};
 use cxx_tree::{
     Base, Block, Class, ClassWord, Decl, Expr, Function, Initial, Item, Left, Local, Member, Name,
     Node, Object, Placed, Program, Ref, Selector, Stmt, TypeName,
 };
+use cxx_types::{Chains, Meaning, Typed, check};
 use sqlite_items::Items;
 use std::alloc::Global;
 use std::test::Fail;
@@ -155,27 +155,6 @@ fn tells_of_nodes_and_classes(rt: HostRuntime) -> Result<(), Fail> {
     assert_eq!(rt; typed.meaning_of(NodeId(3)), Meaning::Other);
     assert!(rt; typed.derives(ClassId(1), ClassId(0)));
     assert!(rt; !typed.derives(ClassId(0), ClassId(1)));
-    Ok(())
-}
-
-#[test]
-fn tells_of_objects(rt: HostRuntime) -> Result<(), Fail> {
-    let Ok(Some((typed, _))) = typed(rt.alloc()) else {
-        return Err("no memory, or refused")?;
-    };
-    let class = ClassId(1);
-    if typed.layouts.layout(class).is_none() || typed.layouts.parts(class).is_none() {
-        return Err("no class")?;
-    }
-    let word = |number: u32, class: u32| WordInfo {
-        name: NameId(number),
-        kind: NumKind::I32,
-        class: ClassId(class),
-    };
-    assert_eq!(rt; typed.layout(class).len(), 2);
-    assert_eq!(rt; *typed.layout(class).item(0), word(2, 0));
-    assert_eq!(rt; *typed.layout(class).item(1), word(3, 1));
-    assert_eq!(rt; typed.parts(class).len(), 0);
     let _none = Chains::new(rt.alloc());
     Ok(())
 }
