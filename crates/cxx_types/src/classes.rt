@@ -27,7 +27,7 @@ const TOO_MANY_ANCESTORS: usize = 17;
 
 /// What was seen of the items of a class.
 #[derive(Clone, Copy)]
-pub(crate) struct ItemsSeen {
+pub struct ItemsSeen {
     /// How many items there were.
     pub(crate) index: usize,
     pub(crate) members: usize,

@@ -7,7 +7,7 @@ use agxx_base::Mode;
 
 /// How many things there may be of each kind.
 #[derive(Clone, Copy, Debug, PartialEq, Eq)]
-pub(crate) struct Counts {
+pub struct Counts {
     pub(crate) names: usize,
     pub(crate) classes: usize,
     pub(crate) globals: usize,

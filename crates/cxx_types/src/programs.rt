@@ -17,7 +17,7 @@ use cxx_tree::{Class, Const, Decl, Function, Global, Name, Object, Placed, TypeN
 
 /// What was seen of the declarations of a program.
 #[derive(Clone, Copy)]
-pub(crate) struct DeclsSeen {
+pub struct DeclsSeen {
     /// How many declarations there were.
     pub(crate) index: usize,
     pub(crate) classes: u32,
