@@ -25,7 +25,7 @@ use Rattle.cxx_types.specs.declared.context.Context.{Context}
 use Rattle.cxx_types.specs.declared.context.Holder.{Holder}
 use Rattle.cxx_types.specs.declared.context.Holder.TheVariants as holder_of
 use Rattle.cxx_types.specs.declared.entry.Meaning.TheVariants as meaning
-use Rattle.cxx_types.specs.Called.{Callable}
+use Rattle.cxx_types.specs.Callable.{Callable}
 use Rattle.cxx_types.specs.State.{State}
 use Rattle.cxx_types.specs.Access.{is_accessible, own_is_accessible}
 use Rattle.cxx_types.specs.Checking.{required, noted}

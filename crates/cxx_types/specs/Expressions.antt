@@ -29,7 +29,7 @@ use Rattle.cxx_names.specs.LookUp.{thing_of}
 use Rattle.cxx_types.specs.declared.context.Context.{Context}
 use Rattle.cxx_types.specs.declared.entry.Meaning.TheVariants as meaning
 use Rattle.cxx_types.specs.State.{State}
-use Rattle.cxx_types.specs.Called.{Callable}
+use Rattle.cxx_types.specs.Callable.{Callable}
 use Rattle.cxx_types.specs.Checking.{required, noted, opened, closed}
 use Rattle.cxx_types.specs.Conversion.{may_convert, may_be_number, takes, takes_one, binary_type, unary_type, casts, cast_type, truth}
 use Rattle.cxx_types.specs.Selections.{meant, variable_node, read, selected, value_of}
@@ -168,3 +168,7 @@ abbrev mutual
   call c as_value (e.calls n callee arguments) s =
       let f = called c n callee (count arguments) as_value s in
       let x = exprs c f.1.params true arguments f.0 in (x.0, called_type f.1 x.1)
+
+-- `&` with its operand
+abbrev pub address_of : Context → Node → ExprTree → State → Typed
+address_of c n operand s = address_by c n (addressed c operand s) (λ s. expr c operand s) s

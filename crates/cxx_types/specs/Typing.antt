@@ -1,7 +1,7 @@
 -- Programs that violate no rule, and what is known of them.
-use Rattle.std.specs.Prelude.{◌≡◌, ℕ, List, [], Option, Some, None, slice_get}
+use Rattle.std.specs.Prelude.{◌≡◌, ℕ, List, [], Option, Some, None, Result, MatchResult, slice_get}
+use Rattle.agxx_base.specs.Refusals.{IfRefused}
 use Rattle.agxx_base.specs.declared.fault.Fault.{Fault}
-use Rattle.agxx_base.specs.declared.fault.Fault.TheVariants as fault
 use Rattle.agxx_base.specs.declared.fault.Refusal.{Refusal}
 use Rattle.agxx_base.specs.declared.ids.ClassId.{ClassId}
 use Rattle.agxx_base.specs.declared.ids.NameId.{NameId}
@@ -21,11 +21,6 @@ use Rattle.cxx_types.specs.declared.typed.Typed.{Typed}
 use Rattle.cxx_types.specs.Programs.{checked}
 use Rattle.cxx_types.specs.Violations.{violations_of, refusal_of}
 
--- what holds of a fault's refusal, if it has one
-abbrev pub IfRefusal : Fault → (Refusal → Type 0) → Type 0
-IfRefusal (fault.Refused refusal) Holds = Holds refusal
-IfRefusal fault.Memory Holds = Unit {0}
-
 -- the program, where names have these texts and the program is read so, violates no rule; and this is known of it
 pub record IsTypedOf (names : List (List ℕ)) (mode : Mode) (q : ProgramTree) (t : Typed) : Type 0 where
   pub accepted : violations_of names mode q ≡ []
@@ -37,8 +32,12 @@ pub record IsTypedOf (names : List (List ℕ)) (mode : Mode) (q : ProgramTree) (
   pub words : t.layouts.layouts ≡ layouts (declared names q)
   pub part_classes : t.layouts.parts ≡ all_parts names (declared names q)
 
+-- what is made of a program: what is known of it, or the violation that is told
+abbrev pub IsJudged : List (List ℕ) → Mode → ProgramTree → Result Typed Refusal → Type 0
+IsJudged names mode q judged = MatchResult judged (IsTypedOf names mode q) (λ refusal. refusal_of names mode q ≡ Some refusal)
+
 abbrev pub IsChecked : List (List ℕ) → Mode → ProgramTree → Fault → Type 0
-IsChecked names mode q f = IfRefusal f (λ refusal. refusal_of names mode q ≡ Some refusal)
+IsChecked names mode q f = IfRefused f (λ refusal. refusal_of names mode q ≡ Some refusal)
 
 -- ---- what is known of nodes
 

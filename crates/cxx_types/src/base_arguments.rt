@@ -67,7 +67,8 @@ impl<'a> Checker<'a> {
         context: Context,
         arguments: &[Expr],
     ) -> Result<(), Memory>
-        ensures { OnOk result (self.new ≡ spec.base_arguments context (exprs_tree arguments.now) self.old) }
+        ensures { OnOk result
+            (self.new ≡ spec.base_arguments context (exprs_tree arguments.now) self.old) }
     {
         for argument in arguments {
             let uses = self.uses_object(context, argument);

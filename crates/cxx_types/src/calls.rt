@@ -24,11 +24,15 @@ pub(crate) struct Called<'a> {
 }
 
 impl<'a> Model for Called<'a> {
-    ghost use Rattle.cxx_types.specs.Called.{Callable};
+    ghost use Rattle.cxx_types.specs.Callable.{Callable};
 
     ghost Value = { Callable };
 
-    ghost view = { λ called. record { params = called.params.now; result = called.result; is_right = called.is_right } };
+    ghost view = { λ called. record {
+      params = called.params.now;
+      result = called.result;
+      is_right = called.is_right;
+    } };
 }
 
 /// How a function is called: the number of arguments, and whether a value is wanted.
@@ -100,7 +104,9 @@ impl<'a> Checker<'a> {
         reference: Ref,
         used: Use,
     ) -> Result<Called<'a>, Memory>
-        ensures { IfOk result (λ f. (self.new, f) ≡ spec.bare_by context node reference used.count used.as_value (spec.function_meant context reference self.old) self.old) }
+        ensures { IfOk result (λ f.
+            (self.new, f) ≡ spec.bare_by context node reference used.count used.as_value
+            (spec.function_meant context reference self.old) self.old) }
     {
         let declared = self.declared;
         match declared.function(context.class, reference) {
@@ -138,7 +144,9 @@ impl<'a> Checker<'a> {
         holder: ClassId,
         used: Use,
     ) -> Result<Called<'a>, Memory>
-        ensures { IfOk result (λ f. (self.new, f) ≡ spec.method_by context node name holder used.count used.as_value (spec.method_meant holder name self.old) self.old) }
+        ensures { IfOk result (λ f.
+            (self.new, f) ≡ spec.method_by context node name holder used.count used.as_value
+            (spec.method_meant holder name self.old) self.old) }
     {
         let declared = self.declared;
         match declared.method(holder, name.item) {
@@ -173,7 +181,8 @@ impl<'a> Checker<'a> {
         used: Use,
         is_function: bool,
     ) -> Result<Called<'a>, Memory>
-        ensures { IfOk result (λ f. (self.new, f) ≡ spec.asked node name used.count used.as_value is_function self.old) }
+        ensures { IfOk result (λ f.
+            (self.new, f) ≡ spec.asked node name used.count used.as_value is_function self.old) }
     {
         self.require(Rule::N1, name.at, is_function)?;
         self.require(Rule::N8, node.at, !is_function || !used.as_value)?;
@@ -190,7 +199,9 @@ impl<'a> Checker<'a> {
         used: Use,
         holder: Holder,
     ) -> Result<Called<'a>, Memory>
-        ensures { IfOk result (λ f. (self.new, f) ≡ spec.called_behind context node name used.count used.as_value holder self.old) }
+        ensures { IfOk result (λ f.
+            (self.new, f) ≡ spec.called_behind context node name used.count used.as_value
+            holder self.old) }
     {
         match holder {
             Holder::Class(class) => self.method(context, node, name, class, used),
@@ -216,7 +227,8 @@ impl<'a> Checker<'a> {
         selector: Selector,
         used: Use,
     ) -> Result<Called<'a>, Memory>
-        ensures { IfOk result (λ f. (self.new, f) ≡ spec.method_call context node selector used.count used.as_value self.old) }
+        ensures { IfOk result (λ f.
+            (self.new, f) ≡ spec.method_call context node selector used.count used.as_value self.old) }
     {
         let holder = self.holder(context, node.at, selector.base)?;
         let called = self.called_behind(context, node, selector.name, used, holder)?;
@@ -233,7 +245,8 @@ impl<'a> Checker<'a> {
         callee: Callee,
         used: Use,
     ) -> Result<Called<'a>, Memory>
-        ensures { IfOk result (λ f. (self.new, f) ≡ spec.called context node callee used.count used.as_value self.old) }
+        ensures { IfOk result (λ f.
+            (self.new, f) ≡ spec.called context node callee used.count used.as_value self.old) }
     {
         match callee {
             Callee::Bare(reference) => self.bare(context, node, reference, used),
@@ -249,7 +262,9 @@ impl<'a> Checker<'a> {
         name: Place,
         count: usize,
     ) -> Result<Called<'a>, Memory>
-        ensures { IfOk result (λ f. (self.new, f) ≡ spec.constructed viewer class name count (spec.ctor_in class self.old) self.old) }
+        ensures { IfOk result (λ f.
+            (self.new, f) ≡ spec.constructed viewer class name count
+            (spec.ctor_in class self.old) self.old) }
     {
         let declared = self.declared;
         match ctor_of(declared.class(class)) {

@@ -27,7 +27,7 @@ const TOO_MANY_ANCESTORS: usize = 17;
 
 /// What was seen of the items of a class.
 #[derive(Clone, Copy)]
-pub(crate) struct ItemsSeen {
+pub struct ItemsSeen {
     /// How many items there were.
     pub(crate) index: usize,
     pub(crate) members: usize,
@@ -168,7 +168,8 @@ impl<'a> Checker<'a> {
     }
 
     fn base_init(&mut self, context: Context, class: &ClassInfo, init: &Init) -> Result<(), Memory>
-        ensures { OnOk result (self.new ≡ spec.base_init context class.now (init_tree init.now) self.old) }
+        ensures { OnOk result
+            (self.new ≡ spec.base_init context class.now (init_tree init.now) self.old) }
     {
         let arguments = init.arguments.as_slice();
         let params = base_params(base_ctor(self.declared, class));
@@ -185,7 +186,9 @@ impl<'a> Checker<'a> {
         type_name: TypeName,
         arguments: &[Expr],
     ) -> Result<(), Memory>
-        ensures { OnOk result (self.new ≡ spec.member_arguments context name type_name (exprs_tree arguments.now) self.old) }
+        ensures { OnOk result
+            (self.new ≡ spec.member_arguments context name type_name
+            (exprs_tree arguments.now) self.old) }
     {
         if let [first, rest @ ..] = arguments {
             let value = self.expr(context, first)?;
@@ -203,7 +206,8 @@ impl<'a> Checker<'a> {
         init: &Init,
         member: Option<MemberInfo>,
     ) -> Result<(), Memory>
-        ensures { OnOk result (self.new ≡ spec.member_init context (init_tree init.now) member self.old) }
+        ensures { OnOk result
+            (self.new ≡ spec.member_init context (init_tree init.now) member self.old) }
     {
         let arguments = init.arguments.as_slice();
         match member {
@@ -229,7 +233,8 @@ impl<'a> Checker<'a> {
         before: &Table<usize>,
         init: &Init,
     ) -> Result<(), Memory>
-        ensures { OnOk result (self.new ≡ spec.init context base class.now before.now (init_tree init.now) self.old) }
+        ensures { OnOk result
+            (self.new ≡ spec.init context base class.now before.now (init_tree init.now) self.old) }
     {
         let is_new = before.find(init.name.item).is_none();
         self.require(Rule::N2, init.name.at, is_new)?;
@@ -248,7 +253,8 @@ impl<'a> Checker<'a> {
         class: &ClassInfo,
         inits: &[Init],
     ) -> Result<(), Memory>
-        ensures { OnOk result (self.new ≡ spec.inits context base class.now [] (map init_tree inits.now) self.old) }
+        ensures { OnOk result
+            (self.new ≡ spec.inits context base class.now [] (map init_tree inits.now) self.old) }
     {
         let mut before = Table::new(self.alloc);
         for init in inits {
@@ -265,7 +271,8 @@ impl<'a> Checker<'a> {
         class: &ClassInfo,
         inits: &[Init],
     ) -> Result<(), Memory>
-        ensures { OnOk result (self.new ≡ spec.base_alone name base class.now (map init_tree inits.now) self.old) }
+        ensures { OnOk result
+            (self.new ≡ spec.base_alone name base class.now (map init_tree inits.now) self.old) }
     {
         let params = base_params(base_ctor(self.declared, class));
         let is_right = initialises_base(base, class, inits) || counts(0, params);
@@ -287,7 +294,8 @@ impl<'a> Checker<'a> {
         is_second: bool,
         ctor: &Ctor,
     ) -> Result<(), Memory>
-        ensures { OnOk result (self.new ≡ spec.ctor context base class.now is_second (ctor_tree ctor.now) self.old) }
+        ensures { OnOk result
+            (self.new ≡ spec.ctor context base class.now is_second (ctor_tree ctor.now) self.old) }
     {
         let context = lifecycle(context);
         let inits = ctor.inits.as_slice();
@@ -309,7 +317,8 @@ impl<'a> Checker<'a> {
         is_second: bool,
         dtor: &Dtor,
     ) -> Result<(), Memory>
-        ensures { OnOk result (self.new ≡ spec.dtor context class.now is_second (dtor_tree dtor.now) self.old) }
+        ensures { OnOk result
+            (self.new ≡ spec.dtor context class.now is_second (dtor_tree dtor.now) self.old) }
     {
         self.require(Rule::N2, dtor.name.at, !is_second)?;
         self.of_class(class, dtor.name)?;
@@ -371,7 +380,8 @@ impl<'a> Checker<'a> {
         seen: ItemsSeen,
         function: &Function,
     ) -> Result<(), Memory>
-        ensures { OnOk result (self.new ≡ spec.method context class.now seen (function_tree function.now) self.old) }
+        ensures { OnOk result
+            (self.new ≡ spec.method context class.now seen (function_tree function.now) self.old) }
     {
         let has_room = seen.methods != self.most.methods;
         self.require(Rule::N10, function.name.at, has_room)?;
@@ -391,7 +401,8 @@ impl<'a> Checker<'a> {
         seen: ItemsSeen,
         item: &Item,
     ) -> Result<(), Memory>
-        ensures { OnOk result (self.new ≡ spec.item context base class.now seen (item_tree item.now) self.old) }
+        ensures { OnOk result
+            (self.new ≡ spec.item context base class.now seen (item_tree item.now) self.old) }
     {
         match item {
             Item::Label(_, _) => Ok(()),
@@ -409,7 +420,9 @@ impl<'a> Checker<'a> {
         class: &ClassInfo,
         items: &[Item],
     ) -> Result<(), Memory>
-        ensures { OnOk result (self.new ≡ spec.items context base class.now spec.none_seen (map item_tree items.now) self.old) }
+        ensures { OnOk result
+            (self.new ≡ spec.items context base class.now spec.none_seen
+            (map item_tree items.now) self.old) }
     {
         let mut seen = NONE_SEEN;
         for item in items {

@@ -192,7 +192,8 @@ impl<'a> Checker<'a> {
         param: &Param,
         argument: Option<ValueType>,
     ) -> Result<bool, Memory>
-        ensures { IfOk result (λ right. (self.new, right) ≡ spec.passed at param.now (self.old, argument)) }
+        ensures { IfOk result (λ right.
+            (self.new, right) ≡ spec.passed at param.now (self.old, argument)) }
     {
         let to = self.param_type(param);
         let is_right = self.passes(argument, to);
@@ -209,7 +210,8 @@ impl<'a> Checker<'a> {
         node: Node,
         operand: &Expr,
     ) -> Result<Option<ValueType>, Memory>
-        ensures { IfOk result (λ t. (self.new, t) ≡ spec.address_by context node (spec.addressed context (expr_tree operand.now) self.old) (spec.expr context (expr_tree operand.now)) self.old) }
+        ensures { IfOk result (λ t.
+            (self.new, t) ≡ spec.address_of context node (expr_tree operand.now) self.old) }
     {
         match self.addressed(context, operand) {
             Some((reference, class)) => self.address(context, reference, class),
@@ -230,7 +232,9 @@ impl<'a> Checker<'a> {
         class: Name,
         arguments: &[Expr],
     ) -> Result<Option<ValueType>, Memory>
-        ensures { IfOk result (λ t. (self.new, t) ≡ spec.expr context (new_with node class (exprs_tree arguments.now)) self.old) }
+        ensures { IfOk result (λ t.
+            (self.new, t) ≡ spec.expr context
+            (new_with node class (exprs_tree arguments.now)) self.old) }
     {
         let called = self.created(context, class, count(arguments))?;
         let fit = self.arguments(context, called.params, arguments)?;
@@ -297,7 +301,9 @@ impl<'a> Checker<'a> {
         params: &[Param],
         arguments: &[Expr],
     ) -> Result<bool, Memory>
-        ensures { IfOk result (λ right. (self.new, right) ≡ spec.exprs context params.now true (exprs_tree arguments.now) self.old) }
+        ensures { IfOk result (λ right.
+            (self.new, right) ≡ spec.exprs context params.now true
+            (exprs_tree arguments.now) self.old) }
     {
         let mut left = params;
         let mut fit = true;
@@ -323,7 +329,8 @@ impl<'a> Checker<'a> {
         as_value: bool,
         call: &Call,
     ) -> Result<Option<ValueType>, Memory>
-        ensures { IfOk result (λ t. (self.new, t) ≡ spec.call context as_value (call_tree call.now) self.old) }
+        ensures { IfOk result (λ t.
+            (self.new, t) ≡ spec.call context as_value (call_tree call.now) self.old) }
     {
         let arguments = call.arguments.as_slice();
         let used = Use {

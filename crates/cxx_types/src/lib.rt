@@ -1,4 +1,9 @@
-//! Names and types of a program, and the rules on them.
+//! Names and types of a program, and the rules on them. The crate goes through a program once, in text order: it takes
+//! down each rule that is violated, and the type and meaning of each node. Callers cite `IsTypedOf` and `IsChecked` of
+//! `Typing`, and `refusal_of` of `Violations`.
+//!
+//! Read `Checking` and `State` (what a walk finds), then `Access`, `Conversion`, `Selections`, `Calls`, `Expressions`,
+//! `Locals`, `Statements`, `Classes` and `Programs` (the walk), then `Violations` and `Typing`.
 #![tactic(auto)]
 
 mod access;
@@ -12,11 +17,9 @@ mod conversion;
 mod entries;
 mod entry;
 mod expressions;
-mod laws;
 mod limits;
 mod locals;
 mod programs;
-mod refusals;
 mod selections;
 mod statements;
 mod typed;
@@ -26,5 +29,4 @@ pub use context::Context;
 pub use cxx_layout::{ClassList, Layout, WordInfo};
 pub use cxx_names::ValueType;
 pub use entry::{Entry, Meaning};
-pub use laws::{each_node_once, each_rule_by_itself, least_is_least};
 pub use typed::{Typed, check};

@@ -1,7 +1,8 @@
 //! Globals, declarations and whole programs.
 
 ghost use Rattle.std.specs.Prelude.{◌≡◌, suc, OnOk, IfOk, map};
-ghost use Rattle.cxx_tree.specs.ProgramTree.{function_tree, class_tree, object_tree, global_tree, decl_tree, program_tree};
+ghost use Rattle.cxx_tree.specs.ProgramTree.{function_tree, class_tree, object_tree, global_tree};
+ghost use Rattle.cxx_tree.specs.ProgramTree.{decl_tree, program_tree};
 ghost use Rattle.cxx_types.specs.Programs as spec;
 
 use crate::checker::Checker;
@@ -16,7 +17,7 @@ use cxx_tree::{Class, Const, Decl, Function, Global, Name, Object, Placed, TypeN
 
 /// What was seen of the declarations of a program.
 #[derive(Clone, Copy)]
-pub(crate) struct DeclsSeen {
+pub struct DeclsSeen {
     /// How many declarations there were.
     pub(crate) index: usize,
     pub(crate) classes: u32,
@@ -209,7 +210,8 @@ impl<'a> Checker<'a> {
     }
 
     fn free_function(&mut self, seen: DeclsSeen, function: &Function) -> Result<(), Memory>
-        ensures { OnOk result (self.new ≡ spec.free_function seen (function_tree function.now) self.old) }
+        ensures { OnOk result
+            (self.new ≡ spec.free_function seen (function_tree function.now) self.old) }
     {
         let context = Context {
             class: None,
@@ -257,7 +259,8 @@ impl<'a> Checker<'a> {
 
     /// All declarations of a program.
     pub(crate) fn decls(&mut self, decls: &[Decl]) -> Result<(), Memory>
-        ensures { OnOk result (self.new ≡ spec.decls spec.none_seen (map decl_tree decls.now) self.old) }
+        ensures { OnOk result
+            (self.new ≡ spec.decls spec.none_seen (map decl_tree decls.now) self.old) }
     {
         let mut seen = NONE_SEEN;
         for decl in decls {

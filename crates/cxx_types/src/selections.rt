@@ -254,7 +254,9 @@ impl<'a> Checker<'a> {
         name: Name,
         holder: ClassId,
     ) -> Result<Option<ValueType>, Memory>
-        ensures { IfOk result (λ t. (self.new, t) ≡ spec.member_by context at name holder (spec.member_found self.old holder name) self.old) }
+        ensures { IfOk result (λ t.
+            (self.new, t) ≡ spec.member_by context at name holder
+            (spec.member_found self.old holder name) self.old) }
     {
         match self.declared.member(holder, name.item) {
             None => {

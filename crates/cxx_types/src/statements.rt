@@ -2,7 +2,10 @@
 
 ghost use Rattle.std.specs.Prelude.{◌≡◌, OnOk, IfOk, option_map, map, true};
 ghost use Rattle.cxx_tree.specs.ExprTree.{expr_tree, exprs_tree};
-ghost use Rattle.cxx_tree.specs.StmtTree.{initial_tree, local_tree, assign_tree, simple_tree, printed_tree, thread_tree, start_tree, stmt_tree, stmts_tree, block_tree, if_tree, else_tree, while_tree, for_tree};
+ghost use Rattle.cxx_tree.specs.StmtTree.{initial_tree, local_tree, assign_tree, simple_tree};
+ghost use Rattle.cxx_tree.specs.StmtTree.{printed_tree, thread_tree, start_tree, stmt_tree};
+ghost use Rattle.cxx_tree.specs.StmtTree.{stmts_tree, block_tree, if_tree, else_tree};
+ghost use Rattle.cxx_tree.specs.StmtTree.{while_tree, for_tree};
 ghost use Rattle.cxx_types.specs.Calls.{lent_signature};
 ghost use Rattle.cxx_types.specs.Statements as spec;
 
@@ -32,7 +35,9 @@ impl<'a> Checker<'a> {
         type_name: TypeName,
         initial: Option<&Initial>,
     ) -> Result<(), Memory>
-        ensures { OnOk result (self.new ≡ spec.initial context type_name (option_map (λ i. initial_tree i.now) initial.entry) self.old) }
+        ensures { OnOk result
+            (self.new ≡ spec.initial context type_name
+            (option_map (λ i. initial_tree i.now) initial.entry) self.old) }
     {
         let Some(initial) = initial else {
             return Ok(());
@@ -145,7 +150,9 @@ impl<'a> Checker<'a> {
 
     #[tactic(auto, unfolding(crate::specs::Statements::returned))]
     fn returned(&mut self, context: Context, at: Place, value: Option<&Expr>) -> Result<(), Memory>
-        ensures { OnOk result (self.new ≡ spec.returned context at (option_map (λ e. expr_tree e.now) value.entry) self.old) }
+        ensures { OnOk result
+            (self.new ≡ spec.returned context at
+            (option_map (λ e. expr_tree e.now) value.entry) self.old) }
     {
         match value {
             None => self.returned_nothing(context.owner, at)?,
@@ -213,7 +220,8 @@ impl<'a> Checker<'a> {
     }
 
     fn all_printed(&mut self, context: Context, operands: &[Printed]) -> Result<(), Memory>
-        ensures { OnOk result (self.new ≡ spec.all_printed context (map printed_tree operands.now) self.old) }
+        ensures { OnOk result
+            (self.new ≡ spec.all_printed context (map printed_tree operands.now) self.old) }
     {
         for operand in operands {
             self.printed(context, operand)?;
@@ -228,7 +236,9 @@ impl<'a> Checker<'a> {
         function: Ref,
         arguments: &[Expr],
     ) -> Result<(), Memory>
-        ensures { OnOk result (self.new ≡ spec.started context at function (exprs_tree arguments.now) (spec.function_started function self.old) self.old) }
+        ensures { OnOk result
+            (self.new ≡ spec.started context at function (exprs_tree arguments.now)
+            (spec.function_started function self.old) self.old) }
     {
         let declared = self.declared;
         match declared.free_function(function.name.item) {
@@ -253,7 +263,8 @@ impl<'a> Checker<'a> {
 
     #[tactic(auto, unfolding(crate::specs::Statements::thread))]
     fn thread(&mut self, context: Context, outermost: bool, thread: &Thread) -> Result<(), Memory>
-        ensures { OnOk result (self.new ≡ spec.thread context outermost (thread_tree thread.now) self.old) }
+        ensures { OnOk result
+            (self.new ≡ spec.thread context outermost (thread_tree thread.now) self.old) }
     {
         self.require(Rule::N8, thread.at, outermost)?;
         self.started(
@@ -266,7 +277,8 @@ impl<'a> Checker<'a> {
     }
 
     fn start(&mut self, context: Context, start: Option<&Start>) -> Result<(), Memory>
-        ensures { OnOk result (self.new ≡ spec.start context (option_map (λ f. start_tree f.now) start.entry) self.old) }
+        ensures { OnOk result
+            (self.new ≡ spec.start context (option_map (λ f. start_tree f.now) start.entry) self.old) }
     {
         match start {
             None => Ok(()),
@@ -276,7 +288,9 @@ impl<'a> Checker<'a> {
     }
 
     fn condition(&mut self, context: Context, condition: Option<&Expr>) -> Result<(), Memory>
-        ensures { OnOk result (self.new ≡ spec.condition context (option_map (λ e. expr_tree e.now) condition.entry) self.old) }
+        ensures { OnOk result
+            (self.new ≡ spec.condition context
+            (option_map (λ e. expr_tree e.now) condition.entry) self.old) }
     {
         if let Some(condition) = condition {
             self.expr(context, condition)?;
@@ -285,7 +299,8 @@ impl<'a> Checker<'a> {
     }
 
     fn step(&mut self, context: Context, step: Option<&Simple>) -> Result<(), Memory>
-        ensures { OnOk result (self.new ≡ spec.step context (option_map (λ i. simple_tree i.now) step.entry) self.old) }
+        ensures { OnOk result
+            (self.new ≡ spec.step context (option_map (λ i. simple_tree i.now) step.entry) self.old) }
     {
         match step {
             None => Ok(()),
@@ -320,7 +335,8 @@ impl<'a> Checker<'a> {
         outermost: bool,
         stmts: &[Stmt],
     ) -> Result<(), Memory>
-        ensures { OnOk result (self.new ≡ spec.stmts context outermost (stmts_tree stmts.now) self.old) }
+        ensures { OnOk result
+            (self.new ≡ spec.stmts context outermost (stmts_tree stmts.now) self.old) }
     {
         for stmt in stmts {
             self.stmt(context, outermost, stmt)?;
@@ -352,7 +368,8 @@ impl<'a> Checker<'a> {
 
     #[cycle(stmt)]
     fn otherwise(&mut self, context: Context, otherwise: &Else) -> Result<(), Memory>
-        ensures { OnOk result (self.new ≡ spec.otherwise_of context (else_tree otherwise.now) self.old) }
+        ensures { OnOk result
+            (self.new ≡ spec.otherwise_of context (else_tree otherwise.now) self.old) }
     {
         match otherwise {
             Else::Branch(branch) => self.branch(context, branch.get()),

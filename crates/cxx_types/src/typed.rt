@@ -1,21 +1,22 @@
 //! Programs that violate no rule, and what is known of them.
 
-ghost use Rattle.std.specs.Prelude.{◌≡◌, ◌++◌, Some, IfOk, IfErr, IsSome, OnOk, MatchResult};
+ghost use Rattle.std.specs.Prelude.{◌≡◌, ◌++◌, Some, IfOk, IfErr, IsSome, OnOk};
 ghost use Rattle.cxx_tree.specs.ProgramTree.{program_tree};
 ghost use Rattle.cxx_names.specs.Declarations as declarations;
 ghost use Rattle.cxx_names.specs.LookUp as look_up;
 ghost use Rattle.cxx_types.specs.Programs.{checked};
-ghost use Rattle.cxx_types.specs.Violations.{refusal_of, too_many_names};
+ghost use Rattle.cxx_types.specs.Violations.{too_many_names};
 ghost use Rattle.cxx_types.specs.Typing as spec;
-ghost use Rattle.cxx_types.specs.Typing.{IsTypedOf, IsChecked};
+ghost use Rattle.cxx_types.specs.Typing.{IsTypedOf, IsJudged, IsChecked};
 
 use crate::checker::Checker;
 use crate::entries::EntryList;
 use crate::entry::Meaning;
 use crate::limits::most;
 use crate::programs::has_main;
-use crate::refusals::least;
-use agxx_base::{ClassId, Fault, ListOf, Memory, Mode, NameId, Names, NodeId, Refusal, Rule, Text};
+use agxx_base::{
+    ClassId, Fault, ListOf, Memory, Mode, NameId, Names, NodeId, Refusal, Rule, Text, least,
+};
 use cxx_distinct::name_past;
 use cxx_layout::{ClassList, Layout, Layouts};
 use cxx_names::{Declared, Table};
@@ -60,8 +61,10 @@ fn go_through(
     mode: Mode,
 ) -> Result<Findings, Memory>
     requires { declared.now ≡ declarations.declared names.now (program_tree program.now) }
-    ensures violations { IfOk result (λ found. found.violations ≡ (checked names.now mode (program_tree program.now)).found) }
-    ensures entries { IfOk result (λ found. found.entries ≡ (checked names.now mode (program_tree program.now)).entries) }
+    ensures violations { IfOk result (λ found.
+        found.violations ≡ (checked names.now mode (program_tree program.now)).found) }
+    ensures entries { IfOk result (λ found.
+        found.entries ≡ (checked names.now mode (program_tree program.now)).entries) }
 {
     let decls = program.decls.as_slice();
     let mut checker = Checker {
@@ -103,14 +106,14 @@ fn add_names(
 }
 
 /// The names and types of a program, or the least violation.
-#[tactic(auto, using(crate::proofs::Leasts::none_is_least))]
+#[tactic(auto, using(agxx_base::proofs::Leasts::none_is_least))]
 fn judged(
     alloc: Global,
     names: &Names,
     program: Program,
     mode: Mode,
 ) -> Result<Result<Typed, Refusal>, Memory>
-    ensures { IfOk result (λ judged. MatchResult judged (IsTypedOf names.now mode (program_tree program)) (λ refusal. refusal_of names.now mode (program_tree program) ≡ Some refusal)) }
+    ensures { IfOk result (λ judged. IsJudged names.now mode (program_tree program) judged) }
 {
     let declared = Declared::of(alloc, names, &program)?;
     let Findings {
@@ -161,8 +164,8 @@ impl Typed {
         self.texts.item(name.0 as usize).bytes()
     }
 
-    /// The type of a node: of an expression's value, of a call's result, or of what a name stands for. What has no type of
-    /// its own, as `nullptr`, an object's name or a call without a result, has the type `void`.
+    /// The type of a node: of an expression's value, of a call's result, or of what a name stands for. What has no
+    /// type of its own, as `nullptr`, an object's name or a call without a result, has the type `void`.
     pub fn type_of(&self, node: NodeId) -> TypeName
         ensures { result ≡ spec.type_of self.now node }
     {
@@ -172,8 +175,8 @@ impl Typed {
         }
     }
 
-    /// What the name of a node means: that of a variable, of a member with what stands before it, or of the function of a
-    /// call.
+    /// What the name of a node means: that of a variable, of a member with what stands before it, or of the function
+    /// of a call.
     pub fn meaning_of(&self, node: NodeId) -> Meaning
         ensures { result ≡ spec.meaning_of self.now node }
     {
@@ -206,6 +209,3 @@ impl Typed {
         self.declared.derives(class, from)
     }
 }
-
-#[cfg(test)]
-mod tests;

@@ -1,0 +1,15 @@
+pub mod Told
+pub mod WalkedSelections
+pub mod WalkedCalls
+pub mod WalkedExpressions
+pub mod WalkedLocals
+pub mod WalkedSimpleStatements
+pub mod SitesBehind
+pub mod WalkedStatements
+pub mod WalkedFunctions
+pub mod WalkedInitialisers
+pub mod WalkedClasses
+pub mod WalkedPrograms
+pub mod ByRule
+pub mod EachRule
+pub mod EachNode

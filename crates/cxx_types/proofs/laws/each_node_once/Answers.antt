@@ -1,5 +1,0 @@
-use Rattle.cxx_types.proofs.Walked as walked
-use Rattle.cxx_types.proofs.laws.each_node_once.Goals as goal
-
-pub returns : goal.returns
-returns c = walked.each_node

@@ -1,5 +1,0 @@
-use Rattle.cxx_types.proofs.EachRule as each
-use Rattle.cxx_types.proofs.laws.each_rule_by_itself.Goals as goal
-
-pub returns : goal.returns
-returns c = each.each_rule
