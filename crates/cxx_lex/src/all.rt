@@ -21,7 +21,8 @@ pub fn lex_all<'s>(alloc: Global, text: &'s [u8], file: u32, mode: Mode) -> Resu
     ensures refused { IfErr result (λ fault. IfRefused fault (RefusedAt mode file text.now)) }
     // The same as a function's value.
     ensures lexed { IfOk result (λ toks. lexed mode file text.now ≡ tokens (tokens_of toks.items) toks.end) }
-    ensures unlexed { IfErr result (λ fault. IfRefused fault (λ refusal. lexed mode file text.now ≡ refused refusal)) }
+    ensures unlexed { IfErr result (λ fault. IfRefused fault
+        (λ refusal. lexed mode file text.now ≡ refused refusal)) }
 {
     let mut toks = Vec::new(alloc);
     let mut lexer = Lexer::new(text, file, mode);
