@@ -87,9 +87,11 @@ fn remainder(kind: NumKind, a: i128, b: i128) -> Result<Value, ArithStop>
 
 /// How far a shift goes in a kind.
 fn shift_count(kind: NumKind, right: Value) -> Result<u32, ArithStop>
-    ensures ok { IfOk result (λ n. IsTrue (arithmetic.is_count kind (numbers.number right)) × (n ≡ unsigned_abs (numbers.number right))) }
+    ensures ok { IfOk result (λ n. IsTrue (arithmetic.is_count kind (numbers.number right))
+        × (n ≡ unsigned_abs (numbers.number right))) }
     ensures small { IfOk result (λ n. n < 64) }
-    ensures err { IfErr result (λ why. (arithmetic.is_count kind (numbers.number right) ≡ false) × (why ≡ stop.Shift)) }
+    ensures err { IfErr result (λ why. (arithmetic.is_count kind (numbers.number right) ≡ false)
+        × (why ≡ stop.Shift)) }
 {
     let count = number(right);
     if 0 <= count && count < i128::from(width(kind)) {

@@ -56,7 +56,8 @@ impl<'w> Within<'w> {
     #[cycle(expr)]
     #[tactic(auto, unfolding(crate::specs::Descent::level))]
     pub(crate) fn level(&mut self, depth: usize, level: u8) -> Result<Expr, Stop>
-        ensures reads { Reads expr_tree (grammar.level (inner_at depth) level self.old) result self.new }
+        ensures reads { Reads expr_tree (grammar.level (inner_at depth) level self.old)
+            result self.new }
         ensures left { length self.new.words ≤ length self.old.words }
     {
         if level == 0 {
@@ -92,7 +93,8 @@ impl<'w> Within<'w> {
     #[cycle(expr)]
     #[tactic(auto, unfolding(crate::specs::Descent::primary))]
     fn primary(&mut self, depth: usize) -> Result<Expr, Stop>
-        ensures reads { Reads expr_tree (grammar.primary (inner_at depth) self.old) result self.new }
+        ensures reads { Reads expr_tree (grammar.primary (inner_at depth) self.old)
+            result self.new }
         ensures left { length self.new.words ≤ length self.old.words }
     {
         let [next, ..] = self.words.left else {
@@ -114,7 +116,8 @@ impl<'w> Within<'w> {
     /// What begins with a keyword, which comes next.
     #[cycle(expr)]
     fn keyword(&mut self, depth: usize, at: Place, keyword: Keyword) -> Result<Expr, Stop>
-        ensures reads { Reads expr_tree (grammar.keyword_by (inner_at depth) at keyword self.old) result self.new }
+        ensures reads { Reads expr_tree (grammar.keyword_by (inner_at depth) at keyword self.old)
+            result self.new }
         ensures left { length self.new.words ≤ length self.old.words }
     {
         match keyword {
@@ -151,7 +154,9 @@ impl<'w> Within<'w> {
         at: Place,
         type_name: Option<TypeName>,
     ) -> Result<Expr, Stop>
-        ensures reads { Reads expr_tree (grammar.converted_by (inner_at depth) at type_name self.old) result self.new }
+        ensures reads { Reads expr_tree
+            (grammar.converted_by (inner_at depth) at type_name self.old)
+            result self.new }
         ensures left { length self.new.words ≤ length self.old.words }
     {
         let Some(type_name) = type_name else {
@@ -170,7 +175,8 @@ impl<'w> Within<'w> {
     #[cycle(expr)]
     #[tactic(auto, unfolding(crate::specs::Descent::named))]
     fn named(&mut self, depth: usize, at: Place) -> Result<Expr, Stop>
-        ensures reads { Reads expr_tree (grammar.named (inner_at depth) at self.old) result self.new }
+        ensures reads { Reads expr_tree (grammar.named (inner_at depth) at self.old)
+            result self.new }
         ensures left { length self.new.words ≤ length self.old.words }
     {
         let target = self.words.target(at)?;
@@ -196,7 +202,8 @@ impl<'w> Within<'w> {
     #[cycle(expr)]
     #[tactic(auto, unfolding(crate::specs::Descent::called))]
     fn called(&mut self, depth: usize, node: Node, callee: Callee) -> Result<Expr, Stop>
-        ensures reads { Reads expr_tree (grammar.called (inner_at depth) node callee self.old) result self.new }
+        ensures reads { Reads expr_tree (grammar.called (inner_at depth) node callee self.old)
+            result self.new }
         ensures left { length self.new.words ≤ length self.old.words }
     {
         if !self.sees(Sign::OpenParen) {
@@ -214,7 +221,8 @@ impl<'w> Within<'w> {
     #[cycle(expr)]
     #[tactic(auto, unfolding(crate::specs::Descent::created))]
     fn created(&mut self, depth: usize, at: Place) -> Result<Expr, Stop>
-        ensures reads { Reads expr_tree (grammar.created (inner_at depth) at self.old) result self.new }
+        ensures reads { Reads expr_tree (grammar.created (inner_at depth) at self.old)
+            result self.new }
         ensures left { length self.new.words ≤ length self.old.words }
     {
         let class = self.words.name()?;
@@ -225,7 +233,8 @@ impl<'w> Within<'w> {
     #[cycle(expr)]
     #[tactic(auto, unfolding(crate::specs::Descent::created_with))]
     fn created_with(&mut self, depth: usize, at: Place, class: Name) -> Result<Expr, Stop>
-        ensures reads { Reads expr_tree (grammar.created_with (inner_at depth) at class self.old) result self.new }
+        ensures reads { Reads expr_tree (grammar.created_with (inner_at depth) at class self.old)
+            result self.new }
         ensures left { length self.new.words ≤ length self.old.words }
     {
         if !self.sees(Sign::OpenParen) {
@@ -238,7 +247,8 @@ impl<'w> Within<'w> {
     #[cycle(expr)]
     #[tactic(auto, unfolding(crate::specs::Descent::grouped))]
     fn grouped(&mut self, depth: usize, at: Place) -> Result<Expr, Stop>
-        ensures reads { Reads expr_tree (grammar.grouped (inner_at depth) at self.old) result self.new }
+        ensures reads { Reads expr_tree (grammar.grouped (inner_at depth) at self.old)
+            result self.new }
         ensures left { length self.new.words ≤ length self.old.words }
     {
         let inside = self.enclosed(depth)?;
@@ -249,7 +259,8 @@ impl<'w> Within<'w> {
     #[cycle(expr)]
     #[tactic(auto, unfolding(crate::specs::Descent::enclosed))]
     fn enclosed(&mut self, depth: usize) -> Result<Expr, Stop>
-        ensures reads { Reads expr_tree (grammar.enclosed (inner_at depth) self.old) result self.new }
+        ensures reads { Reads expr_tree (grammar.enclosed (inner_at depth) self.old)
+            result self.new }
         ensures left { length self.new.words ≤ length self.old.words }
     {
         if !self.sees(Sign::OpenParen) {
@@ -268,7 +279,8 @@ impl<'w> Within<'w> {
     #[cycle(expr)]
     #[tactic(auto, unfolding(crate::specs::Descent::arguments))]
     fn arguments(&mut self, depth: usize) -> Result<Items<Expr>, Stop>
-        ensures reads { Reads (map expr_tree) (grammar.arguments (inner_at depth) self.old) result self.new }
+        ensures reads { Reads (map expr_tree) (grammar.arguments (inner_at depth) self.old)
+            result self.new }
         ensures left { length self.new.words ≤ length self.old.words }
     {
         if depth == 0 {
@@ -281,7 +293,8 @@ impl<'w> Within<'w> {
     #[cycle(expr)]
     #[tactic(auto, unfolding(crate::specs::Descent::items))]
     fn items(&mut self, depth: usize) -> Result<Items<Expr>, Stop>
-        ensures reads { Reads (map expr_tree) (grammar.items (grammar.expr depth) self.old) result self.new }
+        ensures reads { Reads (map expr_tree) (grammar.items (grammar.expr depth) self.old)
+            result self.new }
         ensures left { length self.new.words ≤ length self.old.words }
     {
         let mut found = Items::new(self.words.alloc);

@@ -33,7 +33,9 @@ impl<'w> Parser<'w> {
 
     #[tactic(auto, unfolding(crate::specs::Full::full_level))]
     fn full_level(&mut self, depth: usize, level: u8) -> Result<Expr, Stop>
-        ensures reads { Reads expr_tree (grammar.full_level grammar.most_operators depth level self.old) result self.new }
+        ensures reads { Reads expr_tree
+            (grammar.full_level grammar.most_operators depth level self.old)
+            result self.new }
         ensures left { length self.new ≤ length self.old }
     {
         let mut within = self.enter();

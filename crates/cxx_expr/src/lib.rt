@@ -19,6 +19,3 @@ pub use parser::{Parser, left_of, unnumbered};
 pub use read::{Unread, read_expr, spelling_is_unique};
 pub use stop::Stop;
 pub use word::{Word, WordAt};
-
-#[cfg(test)]
-mod tests;

@@ -80,7 +80,8 @@ impl<'w> Within<'w> {
 
     /// Passes this sign, which has to come next.
     pub(crate) fn expect(&mut self, sign: Sign) -> Result<(), Stop>
-        ensures reads { Reads (λ u. u) (spec.on_words (outcome.expect sign) self.old) result self.new }
+        ensures reads { Reads (λ u. u) (spec.on_words (outcome.expect sign) self.old)
+            result self.new }
         ensures left { length self.new.words ≤ length self.old.words }
     {
         self.words.expect(sign)

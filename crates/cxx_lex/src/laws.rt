@@ -1,6 +1,15 @@
 //! Laws of the definitions: the functions do nothing.
 
-ghost use Rattle.cxx_lex.specs.Laws.{HasOneReading, HasOneRefusal, IsNeverBoth, IsAlwaysOne, TellsTokens, TellsRefusals, RefusesLargeNumbers, StepsInOneWay};
+ghost use Rattle.cxx_lex.specs.Laws.{
+  HasOneReading,
+  HasOneRefusal,
+  IsNeverBoth,
+  IsAlwaysOne,
+  TellsTokens,
+  TellsRefusals,
+  RefusesLargeNumbers,
+  StepsInOneWay,
+};
 ghost use Rattle.cxx_lex.specs.Strings.{ReadsQuoted};
 
 /// A text has one list of tokens and one end, or one refusal, and never both. `lexed` tells which.

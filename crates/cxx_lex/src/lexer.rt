@@ -6,7 +6,7 @@ ghost use Rattle.cxx_lex.specs.Place.{place_after, start_of};
 
 use crate::front::{Front, front_of};
 use crate::tok::Tok;
-use agxx_base::{Mode, Place, Refusal};
+use agxx_base::{LARGEST_TEXT, Mode, Place, Refusal};
 use std::marker::Model;
 
 /// What a lexer finds.
@@ -73,7 +73,7 @@ impl<'s> Lexer<'s> {
 
     /// A lexer at the beginning of a text. `file` is the number of the text's file in places.
     pub fn new(text: &'s [u8], file: u32, mode: Mode) -> Lexer<'s>
-        requires { length text.now ≤ 16777216 }
+        requires { length text.now ≤ LARGEST_TEXT }
         ensures { result ≡ record { mode = mode; at = start_of file; text = text.now } }
     {
         Lexer {

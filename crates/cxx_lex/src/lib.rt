@@ -1,7 +1,8 @@
 //! The lexer: the tokens of a program file or an aspect file, which borrow its text, or the rule L1 to L5 that the
 //! text violates, at the first place where no token stands. `Lexer` gives them one by one without memory, `lex_all`
 //! all together. What a token is stands in `specs/Lexemes.antt`, what a text's tokens are in `specs/Tokens.antt`. The
-//! layers above may use all that is public here, and in clauses `Tokens`, `TokList`, `Lexed`, `All`, `Strings` and `Bytes`.
+//! layers above may use all that is public here, and in clauses `Tokens`, `TokList`, `Lexed`, `All`, `Strings` and
+//! `Bytes`.
 #![tactic(auto)]
 
 mod all;
@@ -15,8 +16,6 @@ mod literals;
 mod numbers;
 mod signs;
 mod strings;
-#[cfg(test)]
-mod tests;
 mod tok;
 mod toks;
 mod words;

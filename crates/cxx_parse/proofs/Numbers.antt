@@ -220,3 +220,9 @@ longer_five names =
 
 pub longer_special : (names : List (List ℕ)) → IsLonger names (with_special names)
 longer_special names = longer_through names _ (with_special names) (longer_five names) (longer_interned _ (codes "abort"))
+
+-- what the words of a program do to the names
+pub ruleset longer_names = (longer_self, longer_interned, longer_through, longer_five, longer_special)
+
+-- what one token does to the names
+pub ruleset number_of_name = (number_stays, longer_self, longer_interned)

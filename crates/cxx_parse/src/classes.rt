@@ -1,7 +1,14 @@
 //! Functions and classes.
 
 ghost use Rattle.std.specs.Prelude.{◌≡◌, ◌<◌, ◌≤◌, length, map, OnOk};
-ghost use Rattle.cxx_tree.specs.ProgramTree.{function_tree, init_tree, ctor_tree, dtor_tree, item_tree, decl_tree};
+ghost use Rattle.cxx_tree.specs.ProgramTree.{
+  function_tree,
+  init_tree,
+  ctor_tree,
+  dtor_tree,
+  item_tree,
+  decl_tree,
+};
 ghost use Rattle.cxx_expr.specs.Full.{most_operators};
 ghost use Rattle.cxx_expr.specs.Outcome.{Reads};
 ghost use Rattle.cxx_stmt.specs.declared.dialect.Dialect.{Dialect};
@@ -46,7 +53,8 @@ pub(crate) fn mutex_name(dialect: &Dialect, words: &mut Parser<'_>) -> Result<Na
 /// A member that is a mutex, behind `std`, which stands at this place.
 #[tactic(auto, unfolding(crate::specs::Classes::mutex_member))]
 fn mutex_member(dialect: &Dialect, words: &mut Parser<'_>, at: Place) -> Result<Item, Stop>
-    ensures reads { Reads item_tree (grammar.mutex_member dialect.now at words.old) result words.new }
+    ensures reads { Reads item_tree (grammar.mutex_member dialect.now at words.old)
+        result words.new }
     ensures left { length words.new ≤ length words.old }
     ensures eats { OnOk result (length words.new < length words.old) }
 {
@@ -101,7 +109,9 @@ pub(crate) fn body_of(
     name: Name,
     params: Items<Param>,
 ) -> Result<Function, Stop>
-    ensures reads { Reads function_tree (grammar.body_of most_operators dialect.now depth result_type name params words.old) result words.new }
+    ensures reads { Reads function_tree
+        (grammar.body_of most_operators dialect.now depth result_type name params words.old)
+        result words.new }
     ensures left { length words.new ≤ length words.old }
     ensures eats { OnOk result (length words.new < length words.old) }
 {
@@ -123,7 +133,9 @@ fn function_of(
     result_type: Placed<TypeName>,
     name: Name,
 ) -> Result<Function, Stop>
-    ensures reads { Reads function_tree (grammar.function_of most_operators dialect.now depth result_type name words.old) result words.new }
+    ensures reads { Reads function_tree
+        (grammar.function_of most_operators dialect.now depth result_type name words.old)
+        result words.new }
     ensures left { length words.new ≤ length words.old }
     ensures eats { OnOk result (length words.new < length words.old) }
 {
@@ -134,7 +146,8 @@ fn function_of(
 /// An initialiser of a constructor.
 #[tactic(auto, unfolding(crate::specs::Classes::init))]
 fn init(words: &mut Parser<'_>, depth: usize) -> Result<Init, Stop>
-    ensures reads { (d : Dialect) → Reads init_tree (grammar.init most_operators d depth words.old) result words.new }
+    ensures reads { (d : Dialect) → Reads init_tree (grammar.init most_operators d depth words.old)
+        result words.new }
     ensures left { length words.new ≤ length words.old }
     ensures eats { OnOk result (length words.new < length words.old) }
 {
@@ -145,7 +158,9 @@ fn init(words: &mut Parser<'_>, depth: usize) -> Result<Init, Stop>
 
 /// One initialiser or more, with commas between.
 fn some_inits(words: &mut Parser<'_>, depth: usize) -> Result<Items<Init>, Stop>
-    ensures reads { (d : Dialect) → Reads (map init_tree) (parts.some (grammar.init most_operators d depth) words.old) result words.new }
+    ensures reads { (d : Dialect) → Reads (map init_tree)
+        (parts.some (grammar.init most_operators d depth) words.old)
+        result words.new }
     ensures left { length words.new ≤ length words.old }
 {
     let mut found = Items::new(words.alloc());
@@ -163,7 +178,9 @@ fn some_inits(words: &mut Parser<'_>, depth: usize) -> Result<Items<Init>, Stop>
 /// The initialisers of a constructor, if it has some.
 #[tactic(auto, unfolding(crate::specs::Classes::inits))]
 fn inits(words: &mut Parser<'_>, depth: usize) -> Result<Items<Init>, Stop>
-    ensures reads { (d : Dialect) → Reads (map init_tree) (grammar.inits most_operators d depth words.old) result words.new }
+    ensures reads { (d : Dialect) → Reads (map init_tree)
+        (grammar.inits most_operators d depth words.old)
+        result words.new }
     ensures left { length words.new ≤ length words.old }
 {
     if !words.sees(Sign::Colon) {
@@ -182,7 +199,9 @@ fn ctor_body(
     name: Name,
     params: Items<Param>,
 ) -> Result<Ctor, Stop>
-    ensures reads { Reads ctor_tree (grammar.ctor_body most_operators dialect.now depth name params words.old) result words.new }
+    ensures reads { Reads ctor_tree
+        (grammar.ctor_body most_operators dialect.now depth name params words.old)
+        result words.new }
     ensures left { length words.new ≤ length words.old }
     ensures eats { OnOk result (length words.new < length words.old) }
 {
@@ -199,7 +218,8 @@ fn ctor_body(
 /// Behind a constructor's name.
 #[tactic(auto, unfolding(crate::specs::Classes::ctor))]
 fn ctor(dialect: &Dialect, words: &mut Parser<'_>, depth: usize, name: Name) -> Result<Ctor, Stop>
-    ensures reads { Reads ctor_tree (grammar.ctor most_operators dialect.now depth name words.old) result words.new }
+    ensures reads { Reads ctor_tree (grammar.ctor most_operators dialect.now depth name words.old)
+        result words.new }
     ensures left { length words.new ≤ length words.old }
     ensures eats { OnOk result (length words.new < length words.old) }
 {
@@ -210,7 +230,8 @@ fn ctor(dialect: &Dialect, words: &mut Parser<'_>, depth: usize, name: Name) -> 
 /// Behind `~`, which stands at this place.
 #[tactic(auto, unfolding(crate::specs::Classes::dtor))]
 fn dtor(dialect: &Dialect, words: &mut Parser<'_>, depth: usize, at: Place) -> Result<Dtor, Stop>
-    ensures reads { Reads dtor_tree (grammar.dtor most_operators dialect.now depth at words.old) result words.new }
+    ensures reads { Reads dtor_tree (grammar.dtor most_operators dialect.now depth at words.old)
+        result words.new }
     ensures left { length words.new ≤ length words.old }
     ensures eats { OnOk result (length words.new < length words.old) }
 {
@@ -229,7 +250,9 @@ fn typed_item(
     type_name: Placed<TypeName>,
     name: Name,
 ) -> Result<Item, Stop>
-    ensures reads { Reads item_tree (grammar.typed_item most_operators dialect.now depth type_name name words.old) result words.new }
+    ensures reads { Reads item_tree
+        (grammar.typed_item most_operators dialect.now depth type_name name words.old)
+        result words.new }
     ensures left { length words.new ≤ length words.old }
     ensures eats { OnOk result (length words.new < length words.old) }
 {
@@ -249,7 +272,9 @@ fn item_of_type(
     depth: usize,
     type_name: Placed<TypeName>,
 ) -> Result<Item, Stop>
-    ensures reads { Reads item_tree (grammar.item_of_type most_operators dialect.now depth type_name words.old) result words.new }
+    ensures reads { Reads item_tree
+        (grammar.item_of_type most_operators dialect.now depth type_name words.old)
+        result words.new }
     ensures left { length words.new ≤ length words.old }
     ensures eats { OnOk result (length words.new < length words.old) }
 {
@@ -265,7 +290,9 @@ fn name_item(
     depth: usize,
     name: Name,
 ) -> Result<Item, Stop>
-    ensures reads { Reads item_tree (grammar.name_item most_operators dialect.now depth name words.old) result words.new }
+    ensures reads { Reads item_tree
+        (grammar.name_item most_operators dialect.now depth name words.old)
+        result words.new }
     ensures left { length words.new ≤ length words.old }
     ensures eats { OnOk result (length words.new < length words.old) }
 {
@@ -293,7 +320,9 @@ fn label_or_type(
     access: Option<Access>,
     type_name: Option<TypeName>,
 ) -> Result<Item, Stop>
-    ensures reads { Reads item_tree (grammar.label_or_type most_operators dialect.now depth at access type_name words.old) result words.new }
+    ensures reads { Reads item_tree
+        (grammar.label_or_type most_operators dialect.now depth at access type_name words.old)
+        result words.new }
     ensures left { length words.new ≤ length words.old }
     ensures eats { OnOk result (length words.new < length words.old) }
 {
@@ -312,7 +341,8 @@ fn label_or_type(
 /// What stands in the braces of a class.
 #[tactic(auto, unfolding(crate::specs::Classes::item))]
 fn item(dialect: &Dialect, words: &mut Parser<'_>, depth: usize) -> Result<Item, Stop>
-    ensures reads { Reads item_tree (grammar.item most_operators dialect.now depth words.old) result words.new }
+    ensures reads { Reads item_tree (grammar.item most_operators dialect.now depth words.old)
+        result words.new }
     ensures left { length words.new ≤ length words.old }
     ensures eats { OnOk result (length words.new < length words.old) }
 {
@@ -347,7 +377,9 @@ fn braced_items(
     words: &mut Parser<'_>,
     depth: usize,
 ) -> Result<Items<Item>, Stop>
-    ensures reads { Reads (map item_tree) (parts.braced (grammar.item most_operators dialect.now depth) words.old) result words.new }
+    ensures reads { Reads (map item_tree)
+        (parts.braced (grammar.item most_operators dialect.now depth) words.old)
+        result words.new }
     ensures left { length words.new ≤ length words.old }
 {
     let mut found = Items::new(words.alloc());
@@ -362,7 +394,8 @@ fn braced_items(
 /// The items of a class in braces.
 #[tactic(auto, unfolding(crate::specs::Classes::items))]
 fn items(dialect: &Dialect, words: &mut Parser<'_>, depth: usize) -> Result<Items<Item>, Stop>
-    ensures reads { Reads (map item_tree) (grammar.items most_operators dialect.now depth words.old) result words.new }
+    ensures reads { Reads (map item_tree) (grammar.items most_operators dialect.now depth words.old)
+        result words.new }
     ensures left { length words.new ≤ length words.old }
     ensures eats { OnOk result (length words.new < length words.old) }
 {
@@ -376,21 +409,27 @@ fn items(dialect: &Dialect, words: &mut Parser<'_>, depth: usize) -> Result<Item
     braced_items(dialect, words, depth - 1)
 }
 
-/// Behind the name and the base of a class.
-#[tactic(auto, unfolding(crate::specs::Classes::class_items))]
-fn class_items(
+/// Behind `class` or `struct`, which stands at this place, and a name.
+#[tactic(auto, unfolding(crate::specs::Classes::class_of, crate::specs::Classes::class_items))]
+fn class_of(
     dialect: &Dialect,
     words: &mut Parser<'_>,
     depth: usize,
     at: Place,
     word: ClassWord,
     name: Name,
-    base: Option<Name>,
 ) -> Result<Decl, Stop>
-    ensures reads { Reads decl_tree (grammar.class_items most_operators dialect.now depth at word name base words.old) result words.new }
+    ensures reads { Reads decl_tree
+        (grammar.class_of most_operators dialect.now depth at word name words.old)
+        result words.new }
     ensures left { length words.new ≤ length words.old }
     ensures eats { OnOk result (length words.new < length words.old) }
 {
+    if words.sees(Sign::Semicolon) {
+        words.advance();
+        return Ok(Decl::ClassName(ClassName { at, word, name }));
+    }
+    let base = base(words)?;
     let items = items(dialect, words, depth)?;
     words.expect(Sign::Semicolon)?;
     Ok(Decl::Class(Class {
@@ -402,28 +441,6 @@ fn class_items(
     }))
 }
 
-/// Behind `class` or `struct`, which stands at this place, and a name.
-#[tactic(auto, unfolding(crate::specs::Classes::class_of))]
-fn class_of(
-    dialect: &Dialect,
-    words: &mut Parser<'_>,
-    depth: usize,
-    at: Place,
-    word: ClassWord,
-    name: Name,
-) -> Result<Decl, Stop>
-    ensures reads { Reads decl_tree (grammar.class_of most_operators dialect.now depth at word name words.old) result words.new }
-    ensures left { length words.new ≤ length words.old }
-    ensures eats { OnOk result (length words.new < length words.old) }
-{
-    if words.sees(Sign::Semicolon) {
-        words.advance();
-        return Ok(Decl::ClassName(ClassName { at, word, name }));
-    }
-    let base = base(words)?;
-    class_items(dialect, words, depth, at, word, name, base)
-}
-
 /// Behind `class` or `struct`, which stands at this place.
 #[tactic(auto, unfolding(crate::specs::Classes::class))]
 pub(crate) fn class(
@@ -433,7 +450,9 @@ pub(crate) fn class(
     at: Place,
     word: ClassWord,
 ) -> Result<Decl, Stop>
-    ensures reads { Reads decl_tree (grammar.class most_operators dialect.now depth at word words.old) result words.new }
+    ensures reads { Reads decl_tree
+        (grammar.class most_operators dialect.now depth at word words.old)
+        result words.new }
     ensures left { length words.new ≤ length words.old }
     ensures eats { OnOk result (length words.new < length words.old) }
 {

@@ -28,7 +28,8 @@ fn negative(words: &mut Parser<'_>) -> Result<Const, Stop>
 
 /// What this word, which comes next, begins.
 fn constant_at(words: &mut Parser<'_>, word: Word<'_>) -> Result<Const, Stop>
-    ensures reads { Reads (λ c. c) (grammar.constant_at (tokens.word_of word.entry) words.old) result words.new }
+    ensures reads { Reads (λ c. c) (grammar.constant_at (tokens.word_of word.entry) words.old)
+        result words.new }
     ensures left { length words.new ≤ length words.old }
 {
     let found = match word {

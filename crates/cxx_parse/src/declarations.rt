@@ -70,7 +70,10 @@ fn function_or_proto(
     name: Name,
     params: Items<Param>,
 ) -> Result<Decl, Stop>
-    ensures reads { Reads decl_tree (grammar.function_or_proto most_operators dialect.now depth result_type name params words.old) result words.new }
+    ensures reads { Reads decl_tree
+        (grammar.function_or_proto most_operators dialect.now depth result_type name params
+        words.old)
+        result words.new }
     ensures left { length words.new ≤ length words.old }
     ensures eats { OnOk result (length words.new < length words.old) }
 {
@@ -95,7 +98,9 @@ fn typed_decl(
     type_name: Placed<TypeName>,
     name: Name,
 ) -> Result<Decl, Stop>
-    ensures reads { Reads decl_tree (grammar.typed_decl most_operators dialect.now depth type_name name words.old) result words.new }
+    ensures reads { Reads decl_tree
+        (grammar.typed_decl most_operators dialect.now depth type_name name words.old)
+        result words.new }
     ensures left { length words.new ≤ length words.old }
     ensures eats { OnOk result (length words.new < length words.old) }
 {
@@ -114,7 +119,9 @@ fn decl_of_type(
     depth: usize,
     type_name: Placed<TypeName>,
 ) -> Result<Decl, Stop>
-    ensures reads { Reads decl_tree (grammar.decl_of_type most_operators dialect.now depth type_name words.old) result words.new }
+    ensures reads { Reads decl_tree
+        (grammar.decl_of_type most_operators dialect.now depth type_name words.old)
+        result words.new }
     ensures left { length words.new ≤ length words.old }
     ensures eats { OnOk result (length words.new < length words.old) }
 {
@@ -125,7 +132,9 @@ fn decl_of_type(
 /// The arguments of a global object, if it has some.
 #[tactic(auto, unfolding(crate::specs::Declarations::object_arguments))]
 fn object_arguments(words: &mut Parser<'_>, depth: usize) -> Result<Items<Expr>, Stop>
-    ensures reads { (d : Dialect) → Reads (map expr_tree) (grammar.object_arguments most_operators d depth words.old) result words.new }
+    ensures reads { (d : Dialect) → Reads (map expr_tree)
+        (grammar.object_arguments most_operators d depth words.old)
+        result words.new }
     ensures left { length words.new ≤ length words.old }
 {
     if !words.sees(Sign::OpenParen) {
@@ -140,7 +149,9 @@ fn object_arguments(words: &mut Parser<'_>, depth: usize) -> Result<Items<Expr>,
 /// Behind the class and the name of an object.
 #[tactic(auto, unfolding(crate::specs::Declarations::object_of))]
 fn object_of(words: &mut Parser<'_>, depth: usize, class: Name, name: Name) -> Result<Decl, Stop>
-    ensures reads { (d : Dialect) → Reads decl_tree (grammar.object_of most_operators d depth class name words.old) result words.new }
+    ensures reads { (d : Dialect) → Reads decl_tree
+        (grammar.object_of most_operators d depth class name words.old)
+        result words.new }
     ensures left { length words.new ≤ length words.old }
     ensures eats { OnOk result (length words.new < length words.old) }
 {
@@ -156,7 +167,9 @@ fn object_of(words: &mut Parser<'_>, depth: usize, class: Name, name: Name) -> R
 /// Behind the class of an object.
 #[tactic(auto, unfolding(crate::specs::Declarations::object))]
 fn object(words: &mut Parser<'_>, depth: usize, class: Name) -> Result<Decl, Stop>
-    ensures reads { (d : Dialect) → Reads decl_tree (grammar.object most_operators d depth class words.old) result words.new }
+    ensures reads { (d : Dialect) → Reads decl_tree
+        (grammar.object most_operators d depth class words.old)
+        result words.new }
     ensures left { length words.new ≤ length words.old }
     ensures eats { OnOk result (length words.new < length words.old) }
 {
@@ -172,7 +185,9 @@ fn name_decl(
     depth: usize,
     name: Name,
 ) -> Result<Decl, Stop>
-    ensures reads { Reads decl_tree (grammar.name_decl most_operators dialect.now depth name words.old) result words.new }
+    ensures reads { Reads decl_tree
+        (grammar.name_decl most_operators dialect.now depth name words.old)
+        result words.new }
     ensures left { length words.new ≤ length words.old }
     ensures eats { OnOk result (length words.new < length words.old) }
 {
@@ -198,7 +213,9 @@ fn keyword_decl(
     at: Place,
     keyword: Keyword,
 ) -> Result<Decl, Stop>
-    ensures reads { Reads decl_tree (grammar.keyword_decl most_operators dialect.now depth at keyword words.old) result words.new }
+    ensures reads { Reads decl_tree
+        (grammar.keyword_decl most_operators dialect.now depth at keyword words.old)
+        result words.new }
     ensures left { length words.new ≤ length words.old }
     ensures eats { OnOk result (length words.new < length words.old) }
 {
@@ -223,7 +240,9 @@ fn typed_by(
     at: Place,
     type_name: Option<TypeName>,
 ) -> Result<Decl, Stop>
-    ensures reads { Reads decl_tree (grammar.decl_of_word most_operators dialect.now depth at type_name words.old) result words.new }
+    ensures reads { Reads decl_tree
+        (grammar.decl_of_word most_operators dialect.now depth at type_name words.old)
+        result words.new }
     ensures left { length words.new ≤ length words.old }
     ensures eats { OnOk result (length words.new < length words.old) }
 {
@@ -237,7 +256,8 @@ fn typed_by(
 /// A declaration, in which braces, parentheses and `else if` nest no deeper than `depth`.
 #[tactic(auto, unfolding(crate::specs::Declarations::decl))]
 pub(crate) fn decl(dialect: &Dialect, words: &mut Parser<'_>, depth: usize) -> Result<Decl, Stop>
-    ensures reads { Reads decl_tree (grammar.decl most_operators dialect.now depth words.old) result words.new }
+    ensures reads { Reads decl_tree (grammar.decl most_operators dialect.now depth words.old)
+        result words.new }
     ensures left { length words.new ≤ length words.old }
     ensures eats { OnOk result (length words.new < length words.old) }
 {

@@ -42,7 +42,9 @@ fn directives(words: &mut Parser<'_>) -> Result<Items<Directive>, Stop>
 
 /// Declarations up to the end.
 fn decls(dialect: &Dialect, words: &mut Parser<'_>, depth: usize) -> Result<Items<Decl>, Stop>
-    ensures reads { Reads (map decl_tree) (grammar.decls (declarations.decl most_operators dialect.now depth) words.old) result words.new }
+    ensures reads { Reads (map decl_tree)
+        (grammar.decls (declarations.decl most_operators dialect.now depth) words.old)
+        result words.new }
     ensures left { length words.new ≤ length words.old }
 {
     let mut found = Items::new(words.alloc());
@@ -53,7 +55,8 @@ fn decls(dialect: &Dialect, words: &mut Parser<'_>, depth: usize) -> Result<Item
     Ok(found)
 }
 
-/// A program that is all the words, at this place, in which braces, parentheses and `else if` nest no deeper than `depth`.
+/// A program that is all the words, at this place, in which braces, parentheses and `else if` nest no deeper
+/// than `depth`.
 #[tactic(auto, unfolding(crate::specs::Programs::program))]
 pub(crate) fn program(
     dialect: &Dialect,
@@ -61,7 +64,9 @@ pub(crate) fn program(
     depth: usize,
     at: Place,
 ) -> Result<Program, Stop>
-    ensures reads { Reads program_tree (grammar.program most_operators dialect.now depth at words.old) result words.new }
+    ensures reads { Reads program_tree
+        (grammar.program most_operators dialect.now depth at words.old)
+        result words.new }
     ensures left { length words.new ≤ length words.old }
 {
     let directives = directives(words)?;

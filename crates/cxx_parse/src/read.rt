@@ -10,7 +10,16 @@ ghost use Rattle.cxx_expr.specs.Tokens.{tokens_of};
 ghost use Rattle.cxx_stmt.specs.Dialect.{IsApart};
 ghost use Rattle.cxx_parse.specs.Numbering.{IsLonger, names_of};
 ghost use Rattle.cxx_parse.specs.Parsed as spec;
-ghost use Rattle.cxx_parse.specs.Parsed.{IsProgramOf, IsDescent, IsUngrammatical, IsParsed, IsReadAs, IsRefused, SpellingIsUnique, ReadingIsUnique};
+ghost use Rattle.cxx_parse.specs.Parsed.{
+  IsProgramOf,
+  IsDescent,
+  IsUngrammatical,
+  IsParsed,
+  IsReadAs,
+  IsRefused,
+  SpellingIsUnique,
+  ReadingIsUnique,
+};
 
 use crate::programs::program;
 use crate::words::{dialect_of, lent_words, owned_words};
@@ -67,9 +76,12 @@ fn read(
     end: Place,
 ) -> Result<Program, Fault>
     requires { IsApart dialect.now }
-    ensures parsed { IfOk result (λ program. IsProgramOf dialect.now (tokens_of words.now) end (program_tree program)) }
-    ensures read { IfOk result (λ program. IsDescent dialect.now (tokens_of words.now) end (program_tree program)) }
-    ensures refused { IfErr result (λ fault. IfRefused fault (IsUngrammatical dialect.now (tokens_of words.now) end)) }
+    ensures parsed { IfOk result
+        (λ program. IsProgramOf dialect.now (tokens_of words.now) end (program_tree program)) }
+    ensures read { IfOk result
+        (λ program. IsDescent dialect.now (tokens_of words.now) end (program_tree program)) }
+    ensures refused { IfErr result
+        (λ fault. IfRefused fault (IsUngrammatical dialect.now (tokens_of words.now) end)) }
 {
     let mut parser = Parser::new(alloc, words);
     match program(
@@ -95,11 +107,17 @@ pub fn parse_program(
     mode: Mode,
 ) -> Result<Program, Fault>
     // The tree is spelled as all the tokens,
-    ensures parsed { IfOk result (λ program. IsParsed mode names.new (lexed_tokens toks.now.items) toks.now.end (program_tree program)) }
+    ensures parsed { IfOk result
+        (λ program. IsParsed mode names.new (lexed_tokens toks.now.items) toks.now.end
+        (program_tree program)) }
     // and is the very tree that the descent reads of them, with each place in it and each number of a node;
-    ensures read { IfOk result (λ program. IsReadAs mode names.new (lexed_tokens toks.now.items) toks.now.end (program_tree program)) }
+    ensures read { IfOk result
+        (λ program. IsReadAs mode names.new (lexed_tokens toks.now.items) toks.now.end
+        (program_tree program)) }
     // or no tree within the limits is, and the place of G1 is the first at which no program of any size goes on.
-    ensures refused { IfErr result (λ fault. IfRefused fault (IsRefused mode (names_of names.old (lexed_tokens toks.now.items)) (lexed_tokens toks.now.items) toks.now.end)) }
+    ensures refused { IfErr result (λ fault. IfRefused fault
+        (IsRefused mode (names_of names.old (lexed_tokens toks.now.items))
+        (lexed_tokens toks.now.items) toks.now.end)) }
     ensures names { OnOk result (names.new ≡ names_of names.old (lexed_tokens toks.now.items)) }
     ensures kept { IsLonger names.old names.new }
 {

@@ -27,7 +27,7 @@ pub(crate) enum Owned {
 }
 
 /// How a program is read, for which the names with a meaning get numbers.
-#[tactic(auto, using(crate::proofs::Numbers::longer_self, crate::proofs::Numbers::longer_interned, crate::proofs::Numbers::longer_through, crate::proofs::Numbers::longer_five, crate::proofs::Numbers::longer_special))]
+#[tactic(auto, using(crate::proofs::Numbers::longer_names))]
 pub(crate) fn dialect_of(mode: Mode, names: &mut Names) -> Result<Dialect, Memory>
     ensures dialect { IfOk result (λ d. d ≡ numbering.dialect_in mode names.new) }
     ensures names { OnOk result (names.new ≡ numbering.with_special names.old) }
@@ -50,7 +50,7 @@ pub(crate) fn dialect_of(mode: Mode, names: &mut Names) -> Result<Dialect, Memor
     })
 }
 
-#[tactic(auto, using(crate::proofs::Numbers::number_stays, crate::proofs::Numbers::longer_self, crate::proofs::Numbers::longer_interned))]
+#[tactic(auto, using(crate::proofs::Numbers::number_of_name))]
 fn owned_of(alloc: Global, names: &mut Names, tok: &Tok) -> Result<Owned, Memory>
     ensures word { IfOk result (λ o. owned_word o ≡ numbering.word_in names.new tok.now.kind tok.now.text.now) }
     ensures names { OnOk result (names.new ≡ numbering.with_name names.old tok.now.kind tok.now.text.now) }
@@ -74,7 +74,8 @@ pub(crate) fn owned_words(
     names: &mut Names,
     toks: &[Tok],
 ) -> Result<Vec<Placed<Owned>>, Memory>
-    ensures words { IfOk result (λ found. map owned_token found.items ≡ numbering.words_in names.new (lexed_tokens toks.now)) }
+    ensures words { IfOk result (λ found.
+        map owned_token found.items ≡ numbering.words_in names.new (lexed_tokens toks.now)) }
     ensures names { OnOk result (names.new ≡ numbering.with_names names.old (lexed_tokens toks.now)) }
     ensures kept { numbering.IsLonger names.old names.new }
 {

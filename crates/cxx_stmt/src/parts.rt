@@ -46,7 +46,11 @@ pub fn sees_name(words: &Parser<'_>, wanted: NameId) -> bool
 
 /// Passes an opening parenthesis, and says how deep parentheses may nest behind it.
 pub fn open_paren(words: &mut Parser<'_>, depth: usize) -> Result<usize, Stop>
-    ensures reads { Reads (λ below. below) (if tokens.sees sg.OpenParen words.old then grammar.opens depth done words.old else failed stop.Syntax words.old) result words.new }
+    ensures reads { Reads (λ below. below)
+        (if tokens.sees sg.OpenParen words.old
+        then grammar.opens depth done words.old
+        else failed stop.Syntax words.old)
+        result words.new }
     ensures left { length words.new ≤ length words.old }
     ensures eats { OnOk result (length words.new < length words.old) }
 {
@@ -74,7 +78,8 @@ pub fn no_parts(words: &mut Parser<'_>, depth: usize) -> Result<(), Stop>
 /// One full expression or more, with commas between.
 #[tactic(auto, unfolding(crate::specs::Parts::expressions))]
 pub fn expressions(words: &mut Parser<'_>, depth: usize) -> Result<Items<Expr>, Stop>
-    ensures reads { Reads (map expr_tree) (grammar.expressions most_operators depth words.old) result words.new }
+    ensures reads { Reads (map expr_tree) (grammar.expressions most_operators depth words.old)
+        result words.new }
     ensures left { length words.new ≤ length words.old }
 {
     let mut found = Items::new(words.alloc());
@@ -91,7 +96,11 @@ pub fn expressions(words: &mut Parser<'_>, depth: usize) -> Result<Items<Expr>, 
 
 /// Expressions up to a closing parenthesis, with commas between.
 fn any_expressions(words: &mut Parser<'_>, depth: usize) -> Result<Items<Expr>, Stop>
-    ensures reads { Reads (map expr_tree) (if tokens.sees sg.CloseParen words.old then done [] words.old else grammar.expressions most_operators depth words.old) result words.new }
+    ensures reads { Reads (map expr_tree)
+        (if tokens.sees sg.CloseParen words.old
+        then done [] words.old
+        else grammar.expressions most_operators depth words.old)
+        result words.new }
     ensures left { length words.new ≤ length words.old }
 {
     if words.sees(Sign::CloseParen) {
@@ -103,7 +112,8 @@ fn any_expressions(words: &mut Parser<'_>, depth: usize) -> Result<Items<Expr>, 
 /// Arguments that are each a full expression, with their parentheses.
 #[tactic(auto, unfolding(crate::specs::Parts::arguments))]
 pub fn arguments(words: &mut Parser<'_>, depth: usize) -> Result<Items<Expr>, Stop>
-    ensures reads { Reads (map expr_tree) (grammar.arguments most_operators depth words.old) result words.new }
+    ensures reads { Reads (map expr_tree) (grammar.arguments most_operators depth words.old)
+        result words.new }
     ensures left { length words.new ≤ length words.old }
     ensures eats { OnOk result (length words.new < length words.old) }
 {

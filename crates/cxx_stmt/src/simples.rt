@@ -69,7 +69,9 @@ fn bump_next(words: &Parser<'_>) -> Option<Placed<bool>>
 
 /// What may be assigned to or called, which begins with this word.
 fn callee_at(words: &mut Parser<'_>, next: WordAt<'_>) -> Result<Callee, Stop>
-    ensures reads { Reads (λ c. c) (grammar.callee_at next.entry.at (tokens.word_of next.entry.item) words.old) result words.new }
+    ensures reads { Reads (λ c. c)
+        (grammar.callee_at next.entry.at (tokens.word_of next.entry.item) words.old)
+        result words.new }
     ensures left { length words.new ≤ length words.old }
     ensures eats { OnOk result (length words.new < length words.old) }
 {
@@ -126,7 +128,8 @@ fn assigned(
     left: Left,
     sign: Placed<Option<BinOp>>,
 ) -> Result<Simple, Stop>
-    ensures reads { Reads simple_tree (grammar.assigned most_operators depth left sign words.old) result words.new }
+    ensures reads { Reads simple_tree (grammar.assigned most_operators depth left sign words.old)
+        result words.new }
     ensures left { length words.new ≤ length words.old }
 {
     words.advance();
@@ -137,7 +140,8 @@ fn assigned(
 /// Behind the left side of an assignment, or of `++` or `--`.
 #[tactic(auto, unfolding(crate::specs::Simples::changed))]
 fn changed(words: &mut Parser<'_>, depth: usize, left: Left) -> Result<Simple, Stop>
-    ensures reads { Reads simple_tree (grammar.changed most_operators depth left words.old) result words.new }
+    ensures reads { Reads simple_tree (grammar.changed most_operators depth left words.old)
+        result words.new }
     ensures left { length words.new ≤ length words.old }
 {
     if let Some(sign) = assign_next(words) {
@@ -157,7 +161,8 @@ fn simple_behind(
     depth: usize,
     callee: Placed<Callee>,
 ) -> Result<Simple, Stop>
-    ensures reads { Reads simple_tree (grammar.simple_behind most_operators depth callee words.old) result words.new }
+    ensures reads { Reads simple_tree (grammar.simple_behind most_operators depth callee words.old)
+        result words.new }
     ensures left { length words.new ≤ length words.old }
 {
     if !words.sees(Sign::OpenParen) {
@@ -174,7 +179,8 @@ fn simple_behind(
 /// A statement that may stand in the head of a `for`.
 #[tactic(auto, unfolding(crate::specs::Simples::simple))]
 pub(crate) fn simple(words: &mut Parser<'_>, depth: usize) -> Result<Simple, Stop>
-    ensures reads { Reads simple_tree (grammar.simple most_operators depth words.old) result words.new }
+    ensures reads { Reads simple_tree (grammar.simple most_operators depth words.old)
+        result words.new }
     ensures left { length words.new ≤ length words.old }
     ensures eats { OnOk result (length words.new < length words.old) }
 {
@@ -190,7 +196,8 @@ pub(crate) fn simple(words: &mut Parser<'_>, depth: usize) -> Result<Simple, Sto
 /// The initial value of a local, if it has one.
 #[tactic(auto, unfolding(crate::specs::Simples::initial))]
 fn initial(words: &mut Parser<'_>, depth: usize) -> Result<Option<Initial>, Stop>
-    ensures reads { Reads (option_map initial_tree) (grammar.initial most_operators depth words.old) result words.new }
+    ensures reads { Reads (option_map initial_tree) (grammar.initial most_operators depth words.old)
+        result words.new }
     ensures left { length words.new ≤ length words.old }
 {
     let Some(sign) = sign_at(words, Sign::Assign) else {
@@ -208,7 +215,8 @@ fn local_of(
     depth: usize,
     type_name: Placed<TypeName>,
 ) -> Result<Local, Stop>
-    ensures reads { Reads local_tree (grammar.local_of most_operators depth type_name words.old) result words.new }
+    ensures reads { Reads local_tree (grammar.local_of most_operators depth type_name words.old)
+        result words.new }
     ensures left { length words.new ≤ length words.old }
     ensures eats { OnOk result (length words.new < length words.old) }
 {
@@ -224,7 +232,8 @@ fn local_of(
 /// Behind a name: the class of a local's type, or what a simple statement begins with.
 #[tactic(auto, unfolding(crate::specs::Simples::start_behind))]
 pub(crate) fn start_behind(words: &mut Parser<'_>, depth: usize, name: Name) -> Result<Start, Stop>
-    ensures reads { Reads start_tree (grammar.start_behind most_operators depth name words.old) result words.new }
+    ensures reads { Reads start_tree (grammar.start_behind most_operators depth name words.old)
+        result words.new }
     ensures left { length words.new ≤ length words.old }
 {
     if words.sees(Sign::Star) {
@@ -242,7 +251,9 @@ pub(crate) fn start_behind(words: &mut Parser<'_>, depth: usize, name: Name) -> 
 
 /// A local or a simple statement, which begins with a keyword.
 fn start_word(words: &mut Parser<'_>, depth: usize, next: Placed<Keyword>) -> Result<Start, Stop>
-    ensures reads { Reads start_tree (grammar.start_word most_operators depth next.at (word_type next.item) words.old) result words.new }
+    ensures reads { Reads start_tree
+        (grammar.start_word most_operators depth next.at (word_type next.item) words.old)
+        result words.new }
     ensures left { length words.new ≤ length words.old }
     ensures eats { OnOk result (length words.new < length words.old) }
 {
@@ -257,7 +268,8 @@ fn start_word(words: &mut Parser<'_>, depth: usize, next: Placed<Keyword>) -> Re
 /// A local or a simple statement.
 #[tactic(auto, unfolding(crate::specs::Simples::start))]
 pub(crate) fn start(words: &mut Parser<'_>, depth: usize) -> Result<Start, Stop>
-    ensures reads { Reads start_tree (grammar.start most_operators depth words.old) result words.new }
+    ensures reads { Reads start_tree (grammar.start most_operators depth words.old)
+        result words.new }
     ensures left { length words.new ≤ length words.old }
     ensures eats { OnOk result (length words.new < length words.old) }
 {

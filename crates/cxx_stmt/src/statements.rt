@@ -4,7 +4,17 @@ ghost use Rattle.std.specs.Prelude.{◌≡◌, ◌<◌, ◌≤◌, length, map, 
 ghost use Rattle.agxx_base.specs.declared.vocabulary.Sign.TheVariants as sg;
 ghost use Rattle.cxx_tree.specs.ExprTree.{expr_tree};
 ghost use Rattle.cxx_tree.specs.Fits.{expr_level};
-ghost use Rattle.cxx_tree.specs.StmtTree.{block_tree, else_or_none, else_tree, for_tree, if_tree, simple_tree, start_tree, stmt_tree, while_tree};
+ghost use Rattle.cxx_tree.specs.StmtTree.{
+  block_tree,
+  else_or_none,
+  else_tree,
+  for_tree,
+  if_tree,
+  simple_tree,
+  start_tree,
+  stmt_tree,
+  while_tree,
+};
 ghost use Rattle.cxx_expr.specs.Full.{full_level, most_operators};
 ghost use Rattle.cxx_expr.specs.Outcome.{Reads};
 ghost use Rattle.cxx_expr.specs.Tokens as tokens;
@@ -61,7 +71,8 @@ fn if_at(words: &Parser<'_>) -> Option<Place>
 
 /// A local or a simple statement, which was read, with its semicolon.
 fn ended(words: &mut Parser<'_>, start: Start) -> Result<Stmt, Stop>
-    ensures reads { Reads stmt_tree (grammar.ended_start (start_tree start) words.old) result words.new }
+    ensures reads { Reads stmt_tree (grammar.ended_start (start_tree start) words.old)
+        result words.new }
     ensures left { length words.new ≤ length words.old }
     ensures eats { OnOk result (length words.new < length words.old) }
 {
@@ -74,7 +85,8 @@ fn ended(words: &mut Parser<'_>, start: Start) -> Result<Stmt, Stop>
 
 /// A local or a simple statement.
 fn start_stmt(words: &mut Parser<'_>, depth: usize) -> Result<Stmt, Stop>
-    ensures reads { Reads stmt_tree (grammar.start_stmt most_operators depth words.old) result words.new }
+    ensures reads { Reads stmt_tree (grammar.start_stmt most_operators depth words.old)
+        result words.new }
     ensures left { length words.new ≤ length words.old }
     ensures eats { OnOk result (length words.new < length words.old) }
 {
@@ -85,7 +97,8 @@ fn start_stmt(words: &mut Parser<'_>, depth: usize) -> Result<Stmt, Stop>
 /// A condition in parentheses.
 #[tactic(auto, unfolding(crate::specs::Statements::condition))]
 fn condition(words: &mut Parser<'_>, depth: usize) -> Result<Expr, Stop>
-    ensures reads { Reads expr_tree (grammar.condition most_operators depth words.old) result words.new }
+    ensures reads { Reads expr_tree (grammar.condition most_operators depth words.old)
+        result words.new }
     ensures left { length words.new ≤ length words.old }
     ensures eats { OnOk result (length words.new < length words.old) }
 {
@@ -97,7 +110,9 @@ fn condition(words: &mut Parser<'_>, depth: usize) -> Result<Expr, Stop>
 
 /// An expression, unless a semicolon comes next.
 fn optional_expr(words: &mut Parser<'_>, depth: usize) -> Result<Option<Expr>, Stop>
-    ensures reads { Reads (option_map expr_tree) (parts.unless sg.Semicolon (λ ts. full_level most_operators depth expr_level ts) words.old) result words.new }
+    ensures reads { Reads (option_map expr_tree)
+        (parts.unless sg.Semicolon (λ ts. full_level most_operators depth expr_level ts) words.old)
+        result words.new }
     ensures left { length words.new ≤ length words.old }
 {
     if words.sees(Sign::Semicolon) {
@@ -108,7 +123,9 @@ fn optional_expr(words: &mut Parser<'_>, depth: usize) -> Result<Option<Expr>, S
 
 /// What stands first in the head of a `for`.
 fn optional_start(words: &mut Parser<'_>, depth: usize) -> Result<Option<Start>, Stop>
-    ensures reads { Reads (option_map start_tree) (parts.unless sg.Semicolon (λ ts. simples.start most_operators depth ts) words.old) result words.new }
+    ensures reads { Reads (option_map start_tree)
+        (parts.unless sg.Semicolon (λ ts. simples.start most_operators depth ts) words.old)
+        result words.new }
     ensures left { length words.new ≤ length words.old }
 {
     if words.sees(Sign::Semicolon) {
@@ -119,7 +136,9 @@ fn optional_start(words: &mut Parser<'_>, depth: usize) -> Result<Option<Start>,
 
 /// What stands last in the head of a `for`.
 fn optional_step(words: &mut Parser<'_>, depth: usize) -> Result<Option<Simple>, Stop>
-    ensures reads { Reads (option_map simple_tree) (parts.unless sg.CloseParen (λ ts. simples.simple most_operators depth ts) words.old) result words.new }
+    ensures reads { Reads (option_map simple_tree)
+        (parts.unless sg.CloseParen (λ ts. simples.simple most_operators depth ts) words.old)
+        result words.new }
     ensures left { length words.new ≤ length words.old }
 {
     if words.sees(Sign::CloseParen) {
@@ -128,16 +147,21 @@ fn optional_step(words: &mut Parser<'_>, depth: usize) -> Result<Option<Simple>,
     Ok(Some(simple(words, depth)?))
 }
 
-/// What stands in the parentheses of a `for`.
-#[tactic(auto, unfolding(crate::specs::Statements::for_head, crate::specs::Statements::for_condition, crate::specs::Statements::for_step))]
-fn for_head(words: &mut Parser<'_>, depth: usize) -> Result<ForHead, Stop>
-    ensures reads { Reads (λ h. (option_map start_tree h.start, (option_map expr_tree h.condition, option_map simple_tree h.step))) (grammar.for_head most_operators depth words.old) result words.new }
+/// Behind the second semicolon in the head of a `for`.
+#[tactic(auto, unfolding(crate::specs::Statements::for_step))]
+fn for_step(
+    words: &mut Parser<'_>,
+    depth: usize,
+    start: Option<Start>,
+    condition: Option<Expr>,
+) -> Result<ForHead, Stop>
+    ensures reads { Reads
+        (λ h. (option_map start_tree h.start, (option_map expr_tree h.condition, option_map simple_tree h.step)))
+        (grammar.for_step most_operators depth (option_map start_tree start) (option_map expr_tree condition)
+        words.old)
+        result words.new }
     ensures left { length words.new ≤ length words.old }
 {
-    let start = optional_start(words, depth)?;
-    words.expect(Sign::Semicolon)?;
-    let condition = optional_expr(words, depth)?;
-    words.expect(Sign::Semicolon)?;
     let step = optional_step(words, depth)?;
     Ok(ForHead {
         start,
@@ -146,9 +170,28 @@ fn for_head(words: &mut Parser<'_>, depth: usize) -> Result<ForHead, Stop>
     })
 }
 
+/// What stands in the parentheses of a `for`.
+#[tactic(auto, unfolding(crate::specs::Statements::for_head, crate::specs::Statements::for_condition))]
+fn for_head(words: &mut Parser<'_>, depth: usize) -> Result<ForHead, Stop>
+    ensures reads { Reads
+        (λ h. (option_map start_tree h.start, (option_map expr_tree h.condition, option_map simple_tree h.step)))
+        (grammar.for_head most_operators depth words.old)
+        result words.new }
+    ensures left { length words.new ≤ length words.old }
+{
+    let start = optional_start(words, depth)?;
+    words.expect(Sign::Semicolon)?;
+    let condition = optional_expr(words, depth)?;
+    words.expect(Sign::Semicolon)?;
+    for_step(words, depth, start, condition)
+}
+
 /// The head of a `for`, with its parentheses.
 fn enclosed_head(words: &mut Parser<'_>, depth: usize) -> Result<ForHead, Stop>
-    ensures reads { Reads (λ h. (option_map start_tree h.start, (option_map expr_tree h.condition, option_map simple_tree h.step))) (parts.in_parens depth (λ below ts. grammar.for_head most_operators below ts) words.old) result words.new }
+    ensures reads { Reads
+        (λ h. (option_map start_tree h.start, (option_map expr_tree h.condition, option_map simple_tree h.step)))
+        (parts.in_parens depth (λ below ts. grammar.for_head most_operators below ts) words.old)
+        result words.new }
     ensures left { length words.new ≤ length words.old }
     ensures eats { OnOk result (length words.new < length words.old) }
 {
@@ -161,7 +204,8 @@ fn enclosed_head(words: &mut Parser<'_>, depth: usize) -> Result<ForHead, Stop>
 /// Behind `return`.
 #[tactic(auto, unfolding(crate::specs::Statements::return_stmt))]
 fn return_stmt(words: &mut Parser<'_>, depth: usize, at: Place) -> Result<Stmt, Stop>
-    ensures reads { Reads stmt_tree (grammar.return_stmt most_operators depth at words.old) result words.new }
+    ensures reads { Reads stmt_tree (grammar.return_stmt most_operators depth at words.old)
+        result words.new }
     ensures left { length words.new ≤ length words.old }
     ensures eats { OnOk result (length words.new < length words.old) }
 {
@@ -173,7 +217,8 @@ fn return_stmt(words: &mut Parser<'_>, depth: usize, at: Place) -> Result<Stmt, 
 /// Behind `delete`.
 #[tactic(auto, unfolding(crate::specs::Statements::delete_stmt))]
 fn delete_stmt(words: &mut Parser<'_>, depth: usize, at: Place) -> Result<Stmt, Stop>
-    ensures reads { Reads stmt_tree (grammar.delete_stmt most_operators depth at words.old) result words.new }
+    ensures reads { Reads stmt_tree (grammar.delete_stmt most_operators depth at words.old)
+        result words.new }
     ensures left { length words.new ≤ length words.old }
     ensures eats { OnOk result (length words.new < length words.old) }
 {
@@ -186,7 +231,10 @@ impl Dialect {
     /// Behind a name.
     #[tactic(auto, unfolding(crate::specs::Statements::name_stmt))]
     fn name_stmt(&self, words: &mut Parser<'_>, depth: usize, name: Name) -> Result<Stmt, Stop>
-        ensures reads { Reads stmt_tree (grammar.name_stmt most_operators self.now depth (inner_stmt most_operators self.now depth) (inner_branch most_operators self.now depth) name words.old) result words.new }
+        ensures reads { Reads stmt_tree (grammar.name_stmt most_operators self.now depth
+            (inner_stmt most_operators self.now depth) (inner_branch most_operators self.now depth)
+            name words.old)
+            result words.new }
         ensures left { length words.new ≤ length words.old }
         ensures eats { OnOk result (length words.new < length words.old) }
     {
@@ -207,7 +255,8 @@ impl Dialect {
     #[cycle(stmt)]
     #[tactic(auto, using(crate::proofs::Turns::by_depth), unfolding(crate::specs::Statements::stmt_of_depth))]
     pub fn stmt(&self, words: &mut Parser<'_>, depth: usize) -> Result<Stmt, Stop>
-        ensures reads { Reads stmt_tree (grammar.stmt most_operators self.now depth words.old) result words.new }
+        ensures reads { Reads stmt_tree (grammar.stmt most_operators self.now depth words.old)
+            result words.new }
         ensures left { length words.new ≤ length words.old }
         ensures eats { OnOk result (length words.new < length words.old) }
     {
@@ -234,7 +283,10 @@ impl Dialect {
         depth: usize,
         next: Placed<Keyword>,
     ) -> Result<Stmt, Stop>
-        ensures reads { Reads stmt_tree (grammar.keyword_stmt most_operators self.now depth (inner_stmt most_operators self.now depth) (inner_branch most_operators self.now depth) next.at next.item words.old) result words.new }
+        ensures reads { Reads stmt_tree (grammar.keyword_stmt most_operators self.now depth
+            (inner_stmt most_operators self.now depth) (inner_branch most_operators self.now depth)
+            next.at next.item words.old)
+            result words.new }
         ensures left { length words.new ≤ length words.old }
         ensures eats { OnOk result (length words.new < length words.old) }
     {
@@ -266,7 +318,10 @@ impl Dialect {
     /// What begins with a sign, which comes next.
     #[cycle(stmt)]
     fn sign_stmt(&self, words: &mut Parser<'_>, depth: usize, next: Sign) -> Result<Stmt, Stop>
-        ensures reads { Reads stmt_tree (grammar.sign_stmt most_operators self.now depth (inner_stmt most_operators self.now depth) (inner_branch most_operators self.now depth) next words.old) result words.new }
+        ensures reads { Reads stmt_tree (grammar.sign_stmt most_operators self.now depth
+            (inner_stmt most_operators self.now depth) (inner_branch most_operators self.now depth)
+            next words.old)
+            result words.new }
         ensures left { length words.new ≤ length words.old }
         ensures eats { OnOk result (length words.new < length words.old) }
     {
@@ -280,7 +335,8 @@ impl Dialect {
     #[cycle(stmt)]
     #[tactic(auto, unfolding(crate::specs::Statements::block_of))]
     pub fn block(&self, words: &mut Parser<'_>, depth: usize) -> Result<Block, Stop>
-        ensures reads { Reads block_tree (grammar.block most_operators self.now depth words.old) result words.new }
+        ensures reads { Reads block_tree (grammar.block most_operators self.now depth words.old)
+            result words.new }
         ensures left { length words.new ≤ length words.old }
         ensures eats { OnOk result (length words.new < length words.old) }
     {
@@ -298,7 +354,9 @@ impl Dialect {
     /// Statements up to a closing brace, which is passed.
     #[cycle(stmt)]
     fn braced(&self, words: &mut Parser<'_>, depth: usize) -> Result<Items<Stmt>, Stop>
-        ensures reads { Reads (map stmt_tree) (parts.braced (λ ts. grammar.stmt most_operators self.now depth ts) words.old) result words.new }
+        ensures reads { Reads (map stmt_tree)
+            (parts.braced (λ ts. grammar.stmt most_operators self.now depth ts) words.old)
+            result words.new }
         ensures left { length words.new ≤ length words.old }
         ensures eats { OnOk result (length words.new < length words.old) }
     {
@@ -315,7 +373,8 @@ impl Dialect {
     #[cycle(stmt)]
     #[tactic(auto, using(crate::proofs::Turns::by_depth), unfolding(crate::specs::Statements::branch_of))]
     fn branch(&self, words: &mut Parser<'_>, depth: usize, at: Place) -> Result<If, Stop>
-        ensures reads { Reads if_tree (grammar.branch most_operators self.now depth at words.old) result words.new }
+        ensures reads { Reads if_tree (grammar.branch most_operators self.now depth at words.old)
+            result words.new }
         ensures left { length words.new ≤ length words.old }
         ensures eats { OnOk result (length words.new < length words.old) }
     {
@@ -334,7 +393,11 @@ impl Dialect {
     #[cycle(stmt)]
     #[tactic(auto, unfolding(crate::specs::Statements::otherwise))]
     fn otherwise(&self, words: &mut Parser<'_>, depth: usize) -> Result<Option<Else>, Stop>
-        ensures reads { Reads (λ o. else_or_none (option_map else_tree o)) (grammar.otherwise most_operators self.now depth (inner_stmt most_operators self.now depth) (inner_branch most_operators self.now depth) words.old) result words.new }
+        ensures reads { Reads (λ o. else_or_none (option_map else_tree o))
+            (grammar.otherwise most_operators self.now depth
+            (inner_stmt most_operators self.now depth) (inner_branch most_operators self.now depth)
+            words.old)
+            result words.new }
         ensures left { length words.new ≤ length words.old }
     {
         if !sees_else(words) {
@@ -347,7 +410,10 @@ impl Dialect {
     /// Behind `else`.
     #[cycle(stmt)]
     fn behind_else(&self, words: &mut Parser<'_>, depth: usize) -> Result<Else, Stop>
-        ensures reads { Reads else_tree (grammar.behind_else most_operators self.now depth (inner_stmt most_operators self.now depth) (inner_branch most_operators self.now depth) (grammar.if_at words.old) words.old) result words.new }
+        ensures reads { Reads else_tree (grammar.behind_else most_operators self.now depth
+            (inner_stmt most_operators self.now depth) (inner_branch most_operators self.now depth)
+            (grammar.if_at words.old) words.old)
+            result words.new }
         ensures left { length words.new ≤ length words.old }
     {
         let Some(at) = if_at(words) else {
@@ -365,7 +431,10 @@ impl Dialect {
     #[cycle(stmt)]
     #[tactic(auto, unfolding(crate::specs::Statements::while_of))]
     fn while_of(&self, words: &mut Parser<'_>, depth: usize, at: Place) -> Result<While, Stop>
-        ensures reads { Reads while_tree (grammar.while_of most_operators self.now depth (inner_stmt most_operators self.now depth) (inner_branch most_operators self.now depth) at words.old) result words.new }
+        ensures reads { Reads while_tree (grammar.while_of most_operators self.now depth
+            (inner_stmt most_operators self.now depth) (inner_branch most_operators self.now depth)
+            at words.old)
+            result words.new }
         ensures left { length words.new ≤ length words.old }
         ensures eats { OnOk result (length words.new < length words.old) }
     {
@@ -382,7 +451,10 @@ impl Dialect {
     #[cycle(stmt)]
     #[tactic(auto, unfolding(crate::specs::Statements::for_of))]
     fn for_of(&self, words: &mut Parser<'_>, depth: usize, at: Place) -> Result<For, Stop>
-        ensures reads { Reads for_tree (grammar.for_of most_operators self.now depth (inner_stmt most_operators self.now depth) (inner_branch most_operators self.now depth) at words.old) result words.new }
+        ensures reads { Reads for_tree (grammar.for_of most_operators self.now depth
+            (inner_stmt most_operators self.now depth) (inner_branch most_operators self.now depth)
+            at words.old)
+            result words.new }
         ensures left { length words.new ≤ length words.old }
         ensures eats { OnOk result (length words.new < length words.old) }
     {

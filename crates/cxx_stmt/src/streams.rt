@@ -38,7 +38,8 @@ fn sees_colons_behind(words: &Parser<'_>) -> bool
 
 /// A sum, as an operand of a print.
 fn value(words: &mut Parser<'_>, depth: usize) -> Result<Printed, Stop>
-    ensures reads { Reads printed_tree (grammar.value most_operators depth words.old) result words.new }
+    ensures reads { Reads printed_tree (grammar.value most_operators depth words.old)
+        result words.new }
     ensures left { length words.new ≤ length words.old }
 {
     Ok(Printed::Value(words.sum(depth)?))
@@ -56,7 +57,9 @@ fn abort(words: &mut Parser<'_>, depth: usize, at: Place) -> Result<Stmt, Stop>
 
 /// The arguments of a thread, each behind a comma.
 fn other_expressions(words: &mut Parser<'_>, depth: usize) -> Result<Items<Expr>, Stop>
-    ensures reads { Reads (map expr_tree) (parts.others (λ ts. parts.expressions most_operators depth ts) words.old) result words.new }
+    ensures reads { Reads (map expr_tree)
+        (parts.others (λ ts. parts.expressions most_operators depth ts) words.old)
+        result words.new }
     ensures left { length words.new ≤ length words.old }
 {
     if !words.sees(Sign::Comma) {
@@ -69,7 +72,9 @@ fn other_expressions(words: &mut Parser<'_>, depth: usize) -> Result<Items<Expr>
 /// A thread's function and the arguments.
 #[tactic(auto, unfolding(crate::specs::Streams::started))]
 fn started(words: &mut Parser<'_>, depth: usize) -> Result<(Ref, Items<Expr>), Stop>
-    ensures reads { Reads (λ part. (part.0, map expr_tree part.1)) (grammar.started most_operators depth words.old) result words.new }
+    ensures reads { Reads (λ part. (part.0, map expr_tree part.1))
+        (grammar.started most_operators depth words.old)
+        result words.new }
     ensures left { length words.new ≤ length words.old }
 {
     let function = placed_ref(words)?;
@@ -80,7 +85,8 @@ fn started(words: &mut Parser<'_>, depth: usize) -> Result<(Ref, Items<Expr>), S
 /// Behind `std::thread`.
 #[tactic(auto, unfolding(crate::specs::Streams::thread))]
 fn thread(words: &mut Parser<'_>, depth: usize, at: Place) -> Result<Stmt, Stop>
-    ensures reads { Reads stmt_tree (grammar.thread most_operators depth at words.old) result words.new }
+    ensures reads { Reads stmt_tree (grammar.thread most_operators depth at words.old)
+        result words.new }
     ensures left { length words.new ≤ length words.old }
 {
     let name = words.name()?;
@@ -117,7 +123,11 @@ impl Dialect {
 
     /// An operand of a print that is no string.
     fn computed(&self, words: &mut Parser<'_>, depth: usize, at: Place) -> Result<Printed, Stop>
-        ensures reads { Reads printed_tree (if grammar.sees_std self.now words.old then grammar.endl self.now at (tokens.after (tokens.after words.old)) else grammar.value most_operators depth words.old) result words.new }
+        ensures reads { Reads printed_tree
+            (if grammar.sees_std self.now words.old
+            then grammar.endl self.now at (tokens.after (tokens.after words.old))
+            else grammar.value most_operators depth words.old)
+            result words.new }
         ensures left { length words.new ≤ length words.old }
     {
         if !self.sees_std(words) {
@@ -131,7 +141,8 @@ impl Dialect {
     /// An operand of a print, behind `<<`.
     #[tactic(auto, unfolding(crate::specs::Streams::operand))]
     fn operand(&self, words: &mut Parser<'_>, depth: usize) -> Result<Printed, Stop>
-        ensures reads { Reads printed_tree (grammar.operand most_operators self.now depth words.old) result words.new }
+        ensures reads { Reads printed_tree (grammar.operand most_operators self.now depth words.old)
+            result words.new }
         ensures left { length words.new ≤ length words.old }
     {
         let Some(next) = words.peek() else {
@@ -148,7 +159,9 @@ impl Dialect {
     /// The operands of a print, each behind `<<`.
     #[tactic(auto, unfolding(crate::specs::Streams::operands))]
     fn operands(&self, words: &mut Parser<'_>, depth: usize) -> Result<Items<Printed>, Stop>
-        ensures reads { Reads (map printed_tree) (grammar.operands most_operators self.now depth words.old) result words.new }
+        ensures reads { Reads (map printed_tree)
+            (grammar.operands most_operators self.now depth words.old)
+            result words.new }
         ensures left { length words.new ≤ length words.old }
     {
         if !words.sees(Sign::ShiftLeft) {
@@ -166,7 +179,8 @@ impl Dialect {
     /// Behind `std::cout`.
     #[tactic(auto, unfolding(crate::specs::Streams::print))]
     fn print(&self, words: &mut Parser<'_>, depth: usize, at: Place) -> Result<Stmt, Stop>
-        ensures reads { Reads stmt_tree (grammar.print most_operators self.now depth at words.old) result words.new }
+        ensures reads { Reads stmt_tree (grammar.print most_operators self.now depth at words.old)
+            result words.new }
         ensures left { length words.new ≤ length words.old }
     {
         let operands = self.operands(words, depth)?;
@@ -181,7 +195,9 @@ impl Dialect {
         depth: usize,
         at: Place,
     ) -> Result<Stmt, Stop>
-        ensures reads { Reads stmt_tree (grammar.std_stmt most_operators self.now depth at words.old) result words.new }
+        ensures reads { Reads stmt_tree
+            (grammar.std_stmt most_operators self.now depth at words.old)
+            result words.new }
         ensures left { length words.new ≤ length words.old }
     {
         if sees_name(words, self.thread) {
