@@ -1,13 +1,15 @@
-"""Looks that each file that docs/proofs.md names is there, and that each call and definition of its tables stands in the file that is named
-behind it: "`name`, `other` in `crate/src/file.rt`"."""
+"""Looks that each call and definition of the tables of docs/proofs.md stands in the file that is named behind it, as in "`name`, `other` in
+`crate/src/file.rt`", and that each file that a document names is there."""
 
 import pathlib
 import re
 import sys
 
-DOCUMENT = pathlib.Path("docs/proofs.md")
+PROOFS = pathlib.Path("docs/proofs.md")
 TICKED = re.compile(r"`([^`]+)`")
-# How a name is introduced in code (a variant of an enum stands alone on its line) and in a file of definitions.
+# A path to a file or to a crate's definitions, with nothing left open in it.
+FILE = re.compile(r"[\w.-]+(?:/[\w.-]+)*/(?:[\w-]+\.\w+|specs)")
+# How a name is introduced in code (a variant of an enum begins its line) and in a file of definitions.
 CODE = r"\b(?:fn|struct|enum|trait|type|const) {0}\b|^\s+{0}(?: \{{|\(|,)"
 DEFINITION = r"^\s*(?:(?:abbrev|unfoldable|pub|record|data|mutual) +)*{0}(?= |:|$)"
 
@@ -26,16 +28,14 @@ def stands(name, place):
 
 
 def cell_faults(cell):
-    """What is wrong in a cell: names that no file follows, files that are not there, names that do not stand in theirs."""
+    """Names that no file follows, and names that do not stand in the file that follows them."""
     names = []
     for ticked in TICKED.findall(cell):
         if "/" not in ticked:
             names.append(ticked)
             continue
         place = found(ticked)
-        if place is None or not place.is_file():
-            yield f"no file {ticked}"
-        else:
+        if place is not None:
             yield from (f"{name} is not in {ticked}" for name in names if not stands(name, place))
         names = []
     yield from (f"no file behind {name}" for name in names)
@@ -47,24 +47,23 @@ def cells(line):
     return parts[1:] if line.startswith("| ") and len(parts) == 3 else []
 
 
-def prose_faults(line):
-    """Files and folders that a line names and that are not there."""
-    for ticked in TICKED.findall(line):
-        for word in ticked.split():
-            if "/" in word.strip("/") and found(word) is None:
-                yield f"no file {word}"
+def lost_files(line):
+    """Files that a line names and that are not there."""
+    words = [word for ticked in TICKED.findall(line) for word in ticked.split()]
+    return [f"no file {word}" for word in words if FILE.fullmatch(word) and found(word) is None]
 
 
 def main():
     faults, count = [], 0
-    for number, line in enumerate(DOCUMENT.read_text().splitlines(), 1):
-        rows = cells(line)
-        count += len(TICKED.findall(" ".join(rows)))
-        wrong = [fault for cell in rows for fault in cell_faults(cell)] if rows else list(prose_faults(line))
-        faults += [f"{DOCUMENT}:{number}: {fault}" for fault in wrong]
+    for document in [pathlib.Path("README.md"), *sorted(pathlib.Path("docs").glob("*.md"))]:
+        for number, line in enumerate(document.read_text().splitlines(), 1):
+            rows = cells(line) if document == PROOFS else []
+            count += len(TICKED.findall(" ".join(rows)))
+            wrong = lost_files(line) + [fault for cell in rows for fault in cell_faults(cell)]
+            faults += [f"{document}:{number}: {fault}" for fault in wrong]
     for fault in faults:
         print(f"proofs: {fault}")
-    print(f"proofs: {count} names and files, {len(faults)} missing")
+    print(f"proofs: {count} names and files of proofs, {len(faults)} missing in the documents")
     sys.exit(1 if faults else 0)
 
 
