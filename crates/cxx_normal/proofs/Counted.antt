@@ -1,5 +1,5 @@
 -- How many numbers are given.
-use Rattle.std.proofs.Common.{◌≡◌, ℕ, suc, ◌+◌, sym, ◌∙◌, arith}
+use Rattle.std.proofs.Common.{◌+◌, arith}
 use Rattle.cxx_tree.specs.Nodes.{counts}
 use Rattle.cxx_tree.specs.Walk.{IsFolded}
 use Rattle.cxx_tree.proofs.Counted as nodes

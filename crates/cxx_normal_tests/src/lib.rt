@@ -1,4 +1,4 @@
-//! Tests of normal forms alone, so that the crate of the normal form isn't proved once more for them.
+//! Tests of calls of `cxx_normal` that no built program shows.
 #![tactic(auto)]
 
 #[cfg(test)]
