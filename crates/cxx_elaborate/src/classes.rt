@@ -14,7 +14,7 @@ use cxx_core::{Class, Function, Word};
 use cxx_tree::{Ctor, Decl, Dtor, Item, Name, TypeName};
 use sqlite_items::Items;
 
-/// The number of the next function.
+/// The number of the next function, where 32 bits hold it.
 fn next_function(functions: &Items<Function>) -> Result<FnId, Memory>
     ensures { IfOk result (λ n. n.0 ≡ length functions.now) }
 {
@@ -24,7 +24,7 @@ fn next_function(functions: &Items<Function>) -> Result<FnId, Memory>
     }
 }
 
-/// The number of the next class.
+/// The number of the next class, where 32 bits hold it.
 fn next_class(classes: &Items<Class>) -> Result<ClassId, Memory>
     ensures { IfOk result (λ n. n.0 ≡ length classes.now) }
 {

@@ -26,7 +26,7 @@ fn is_main(text: &[u8]) -> bool
     b"main".as_slice() == text
 }
 
-/// The number of the name `main`, or the next number where it has none.
+/// The number of the name `main`, or the next number where it has none and 32 bits hold that one.
 fn main_name(names: &Names) -> Result<NameId, Memory>
     ensures { IfOk result (λ name. name.0 ≡ number_of names.now (codes "main")) }
 {
@@ -43,6 +43,7 @@ fn main_name(names: &Names) -> Result<NameId, Memory>
     }
 }
 
+/// The number after, where 32 bits hold it.
 fn following(number: u32) -> Result<u32, Memory>
     ensures { IfOk result (λ n. n ≡ suc number) }
 {

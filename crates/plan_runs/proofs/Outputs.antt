@@ -1,5 +1,5 @@
 -- What was written of an output.
-use Rattle.std.proofs.Common.{◌≡◌, ℕ, List, [], ◌++◌, Option, None, Some, Err, refl, sym, ap, arith}
+use Rattle.std.proofs.Common.{◌≡◌, ℕ, List, [], Option, None, Some, Err, refl, sym, ap, arith}
 use Rattle.std.proofs.lemmas.List.{append-nil}
 use Rattle.agxx_base.specs.Sink.{appended}
 use Rattle.plan_runs.specs.declared.report.RunError.TheVariants.{Memory}

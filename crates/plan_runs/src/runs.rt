@@ -48,7 +48,7 @@ fn report(state: State, counts: Counts, flips: u64) -> Report
     }
 }
 
-/// One more flip that changed a bit, if it did.
+/// One more flip that changed a bit, if it did, where 64 bits count them.
 fn count(changes: bool, flips: u64) -> Result<u64, Memory>
     ensures { IfOk result (λ more. more ≡ counted changes flips) }
 {

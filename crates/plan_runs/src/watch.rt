@@ -1,6 +1,6 @@
 //! What watches a run.
 
-ghost use Rattle.std.specs.Prelude.{◌≡◌, ◌+◌, [], ◌∷◌, ◌++◌, map, IfOk, OnOk, OnErr, MatchOption};
+ghost use Rattle.std.specs.Prelude.{◌≡◌, ◌+◌, [], ◌++◌, map, IfOk, OnOk, OnErr, MatchOption};
 ghost use Rattle.plan_runs.specs.Flips.{flip_of, falling, first_of, rest_of, IsLeft};
 ghost use Rattle.plan_runs.specs.Runs.{erased_by};
 ghost use Rattle.plan_runs.specs.Watches.{PassesNone, Passes};

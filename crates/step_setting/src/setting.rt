@@ -45,7 +45,8 @@ impl<'p> Model for Setting<'p> {
 }
 
 impl<'p> Setting<'p> {
-    /// A program with the names that it was read with.
+    /// A program with the names that it was read with. Without memory, and where a class has more words or mutexes than
+    /// 32 bits count, there is none.
     pub fn of(alloc: Global, names: &'p Names, program: &'p Program) -> Result<Setting<'p>, Memory>
         ensures { IfOk result (λ s. s ≡ record { names = names.now; program = program_core program.now }) }
     {

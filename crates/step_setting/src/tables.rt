@@ -37,6 +37,7 @@ pub(crate) fn class_at(classes: &[Class], class: ClassId) -> Option<&Class>
     classes.get(class.0 as usize)
 }
 
+/// A count and more, where 32 bits hold the sum.
 fn sum(count: u32, more: usize) -> Result<u32, Memory>
     ensures { IfOk result (λ n. n ≡ spec.sum_of count more) }
 {
