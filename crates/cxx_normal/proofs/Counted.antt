@@ -14,7 +14,7 @@ goes-on = record {
   of_join = λ k a b. omega arith;
   of_node = λ k n. omega arith;
   of_name = λ k n. omega arith;
-  of_type_name = λ k t. omega arith
+  of_type_name = λ k t. omega arith;
 }
 
 pub program-counted : NumbersAreCounted
