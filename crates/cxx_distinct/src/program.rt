@@ -2,9 +2,11 @@
 #![tactic(auto, using(crate::proofs::Runs::seen_append))]
 
 ghost use Rattle.std.specs.Prelude.{◌≡◌, OnOk, IfOk, map};
-ghost use Rattle.std.specs.List.{flat_map};
-ghost use Rattle.cxx_tree.specs.ProgramTree.{function_tree, init_tree, ctor_tree, item_tree, class_tree, global_tree, decl_tree, program_tree};
-ghost use Rattle.cxx_distinct.specs.NamesIn.{names_in_params, names_in_function, names_in_init, names_in_ctor, names_in_item, names_in_base_of, names_in_class, names_in_global, names_in_decl};
+ghost use Rattle.cxx_tree.specs.ProgramTree.{function_tree, init_tree, ctor_tree, item_tree};
+ghost use Rattle.cxx_tree.specs.ProgramTree.{class_tree, global_tree, decl_tree, program_tree};
+ghost use Rattle.cxx_distinct.specs.NamesIn.{names_in_each, names_in_params, names_in_function};
+ghost use Rattle.cxx_distinct.specs.NamesIn.{names_in_init, names_in_ctor, names_in_item, names_in_base_of};
+ghost use Rattle.cxx_distinct.specs.NamesIn.{names_in_class, names_in_global, names_in_decl};
 ghost use Rattle.cxx_distinct.specs.Sights.{seen};
 ghost use Rattle.cxx_distinct.specs.Sights as spec;
 
@@ -41,7 +43,7 @@ impl Sights {
     }
 
     fn inits(&mut self, inits: &[Init]) -> Result<(), Memory>
-        ensures { OnOk result (self.new ≡ seen self.old (flat_map names_in_init (map init_tree inits.now))) }
+        ensures { OnOk result (self.new ≡ seen self.old (names_in_each names_in_init (map init_tree inits.now))) }
     {
         for init in inits {
             self.init(init)?;
@@ -77,7 +79,7 @@ impl Sights {
     }
 
     fn items(&mut self, items: &[Item]) -> Result<(), Memory>
-        ensures { OnOk result (self.new ≡ seen self.old (flat_map names_in_item (map item_tree items.now))) }
+        ensures { OnOk result (self.new ≡ seen self.old (names_in_each names_in_item (map item_tree items.now))) }
     {
         for item in items {
             self.item(item)?;
@@ -132,7 +134,7 @@ impl Sights {
     }
 
     fn decls(&mut self, decls: &[Decl]) -> Result<(), Memory>
-        ensures { OnOk result (self.new ≡ seen self.old (flat_map names_in_decl (map decl_tree decls.now))) }
+        ensures { OnOk result (self.new ≡ seen self.old (names_in_each names_in_decl (map decl_tree decls.now))) }
     {
         for decl in decls {
             self.decl(decl)?;

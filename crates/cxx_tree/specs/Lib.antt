@@ -9,6 +9,9 @@ pub mod AspectSpelling
 pub mod Limits
 pub mod Fits
 pub mod AspectFits
+pub mod Map
 pub mod Blank
 pub mod Same
+pub mod Fold
+pub mod Walk
 pub mod Nodes

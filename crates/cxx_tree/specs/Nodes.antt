@@ -1,5 +1,5 @@
 -- How many nodes a tree has: its expressions and its references to names, which are what has a `Node`.
-use Rattle.std.specs.Prelude.{ℕ, suc, ◌+◌, ◌-◌, ◌^◌, min, Option, Some, None, sum_by}
+use Rattle.std.specs.Prelude.{◌≡◌, ℕ, suc, ◌+◌, ◌-◌, ◌^◌, min, Option, Some, None, sum_by}
 use Rattle.cxx_tree.specs.declared.expr.Base.{Base}
 use Rattle.cxx_tree.specs.declared.expr.Base.TheVariants as base_of
 use Rattle.cxx_tree.specs.declared.expr.Left.{Left}
@@ -9,6 +9,7 @@ use Rattle.cxx_tree.specs.declared.expr.Callee.TheVariants as callee_of
 use Rattle.cxx_tree.specs.ExprTree as e
 use Rattle.cxx_tree.specs.StmtTree as s
 use Rattle.cxx_tree.specs.ProgramTree as p
+use Rattle.cxx_tree.specs.Fold.{Fold, fold_program}
 
 abbrev pub nodes_in_base : Base → ℕ
 nodes_in_base base_of.This = 0
@@ -136,3 +137,11 @@ nodes_in_program q = sum_by nodes_in_decl q.decls
 -- a count that stays at 2^64 - 1 where there are more
 abbrev pub capped : ℕ → ℕ
 capped n = min n (2 ^ 64 - 1)
+
+-- the fold that counts nodes
+abbrev pub counts : Fold ℕ
+counts = record { none = 0; join = λ a b. a + b; node = λ n. 1; name = λ n. 0; type_name = λ t. 0 }
+
+-- how many nodes a program has is what the fold counts
+abbrev pub NodesAreFolded : Type 0
+NodesAreFolded = (q : p.ProgramTree) → nodes_in_program q ≡ fold_program counts q

@@ -25,7 +25,10 @@ pub use aspect::{
 pub use count::node_count;
 pub use equality::same;
 pub use expr::{Base, Call, Callee, Expr, Left, Ref, Selector};
-pub use laws::{larger_limits_fit, same_is_equivalence, same_is_spelled_alike};
+pub use laws::{
+    folds_go_by_parts, larger_limits_fit, maps_compose, nodes_are_folded, same_is_equivalence,
+    same_is_spelled_alike, walks_fold,
+};
 pub use node::{Name, Node, Number, Placed, Quoted};
 pub use operator::{BinOp, UnOp};
 pub use program::{

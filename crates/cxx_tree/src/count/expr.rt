@@ -2,7 +2,8 @@
 
 ghost use Rattle.std.specs.Prelude.{◌≡◌, ◌+◌};
 ghost use Rattle.cxx_tree.specs.ExprTree.{expr_tree, exprs_tree, call_tree};
-ghost use Rattle.cxx_tree.specs.Nodes.{capped, nodes_in_base, nodes_in_left, nodes_in_callee, nodes_in_expr, nodes_in_exprs, nodes_in_call};
+ghost use Rattle.cxx_tree.specs.Nodes.{capped, nodes_in_base, nodes_in_left, nodes_in_callee, nodes_in_expr};
+ghost use Rattle.cxx_tree.specs.Nodes.{nodes_in_exprs, nodes_in_call};
 
 use crate::expr::{Base, Call, Callee, Expr, Left};
 

@@ -2,8 +2,11 @@
 
 ghost use Rattle.std.specs.Prelude.{◌≡◌, ◌+◌, map, sum_by, option_map};
 ghost use Rattle.cxx_tree.specs.ExprTree.{expr_tree};
-ghost use Rattle.cxx_tree.specs.StmtTree.{local_tree, simple_tree, printed_tree, start_tree, stmt_tree, stmts_tree, block_tree, if_tree, else_tree, while_tree, for_tree};
-ghost use Rattle.cxx_tree.specs.Nodes.{capped, nodes_in_optional, nodes_in_expr, nodes_in_local, nodes_in_simple, nodes_in_printed, nodes_in_start, nodes_in_stmt, nodes_in_stmts, nodes_in_block, nodes_in_if, nodes_in_else};
+ghost use Rattle.cxx_tree.specs.StmtTree.{local_tree, simple_tree, printed_tree, start_tree, stmt_tree, stmts_tree};
+ghost use Rattle.cxx_tree.specs.StmtTree.{block_tree, if_tree, else_tree, while_tree, for_tree};
+ghost use Rattle.cxx_tree.specs.Nodes.{capped, nodes_in_optional, nodes_in_expr, nodes_in_local, nodes_in_simple};
+ghost use Rattle.cxx_tree.specs.Nodes.{nodes_in_printed, nodes_in_start, nodes_in_stmt, nodes_in_stmts};
+ghost use Rattle.cxx_tree.specs.Nodes.{nodes_in_block, nodes_in_if, nodes_in_else};
 
 use super::expr::{with_call, with_expr, with_exprs, with_left};
 use crate::expr::Expr;

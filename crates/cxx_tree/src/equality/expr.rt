@@ -1,7 +1,8 @@
 //! Equality of trees but for places and numbers of nodes.
 
 ghost use Rattle.std.specs.Prelude.{◌≡◌, ◌↔◌, IsTrue};
-ghost use Rattle.cxx_tree.specs.Blank.{blank_ref, blank_base, blank_selector, blank_left, blank_callee, blank_expr, blank_exprs, blank_call};
+ghost use Rattle.cxx_tree.specs.Blank.{blank_ref, blank_base, blank_selector, blank_left, blank_callee, blank_expr};
+ghost use Rattle.cxx_tree.specs.Blank.{blank_exprs, blank_call};
 ghost use Rattle.cxx_tree.specs.ExprTree.{expr_tree, exprs_tree, call_tree};
 
 use crate::expr::{Base, Call, Callee, Expr, Left, Ref, Selector};

@@ -1,8 +1,11 @@
 //! Equality of programs and their declarations but for places and numbers of nodes.
 
 ghost use Rattle.std.specs.Prelude.{◌≡◌, ◌↔◌, IsTrue, map, option_map};
-ghost use Rattle.cxx_tree.specs.ProgramTree.{function_tree, init_tree, ctor_tree, dtor_tree, item_tree, class_tree, object_tree, global_tree, decl_tree, program_tree};
-ghost use Rattle.cxx_tree.specs.Blank.{blank_placed, blank_param, blank_member, blank_function, blank_proto, blank_init, blank_ctor, blank_dtor, blank_item, blank_class, blank_class_name, blank_variable, blank_object, blank_global, blank_decl};
+ghost use Rattle.cxx_tree.specs.ProgramTree.{function_tree, init_tree, ctor_tree, dtor_tree, item_tree, class_tree};
+ghost use Rattle.cxx_tree.specs.ProgramTree.{object_tree, global_tree, decl_tree, program_tree};
+ghost use Rattle.cxx_tree.specs.Blank.{blank_placed, blank_param, blank_member, blank_function, blank_proto};
+ghost use Rattle.cxx_tree.specs.Blank.{blank_init, blank_ctor, blank_dtor, blank_item, blank_class, blank_class_name};
+ghost use Rattle.cxx_tree.specs.Blank.{blank_variable, blank_object, blank_global, blank_decl};
 ghost use Rattle.cxx_tree.specs.Same.{IsSame};
 
 use super::expr::same_exprs;

@@ -2,8 +2,12 @@
 
 ghost use Rattle.std.specs.Prelude.{◌≡◌, ◌↔◌, IsTrue, option_map, map};
 ghost use Rattle.cxx_tree.specs.ExprTree.{expr_tree};
-ghost use Rattle.cxx_tree.specs.StmtTree.{local_tree, assign_tree, simple_tree, printed_tree, print_tree, thread_tree, start_tree, stmt_tree, stmts_tree, block_tree, if_tree, else_tree, while_tree, for_tree, initial_tree};
-ghost use Rattle.cxx_tree.specs.Blank.{blank_quoted, blank_local, blank_initial, blank_assign, blank_bump, blank_simple, blank_printed, blank_print, blank_thread, blank_start, blank_stmt, blank_stmts, blank_block, blank_if, blank_else, blank_expr};
+ghost use Rattle.cxx_tree.specs.StmtTree.{local_tree, assign_tree, simple_tree, printed_tree, print_tree};
+ghost use Rattle.cxx_tree.specs.StmtTree.{thread_tree, start_tree, stmt_tree, stmts_tree, block_tree, if_tree};
+ghost use Rattle.cxx_tree.specs.StmtTree.{else_tree, while_tree, for_tree, initial_tree};
+ghost use Rattle.cxx_tree.specs.Blank.{blank_quoted, blank_local, blank_initial, blank_assign, blank_bump};
+ghost use Rattle.cxx_tree.specs.Blank.{blank_simple, blank_printed, blank_print, blank_thread, blank_start};
+ghost use Rattle.cxx_tree.specs.Blank.{blank_stmt, blank_stmts, blank_block, blank_if, blank_else, blank_expr};
 
 use super::expr::{same_call, same_expr, same_exprs, same_left, same_ref};
 use crate::expr::Expr;
@@ -20,7 +24,9 @@ fn same_quoted(a: &Quoted, b: &Quoted) -> bool
 }
 
 fn same_initial(a: &Option<Initial>, b: &Option<Initial>) -> bool
-    ensures { IsTrue result ↔ (option_map blank_initial (option_map initial_tree a.now) ≡ option_map blank_initial (option_map initial_tree b.now)) }
+    ensures { IsTrue result ↔
+        (option_map blank_initial (option_map initial_tree a.now)
+        ≡ option_map blank_initial (option_map initial_tree b.now)) }
 {
     match (a, b) {
         (None, None) => true,
@@ -30,7 +36,9 @@ fn same_initial(a: &Option<Initial>, b: &Option<Initial>) -> bool
 }
 
 fn same_optional(a: &Option<Expr>, b: &Option<Expr>) -> bool
-    ensures { IsTrue result ↔ (option_map blank_expr (option_map expr_tree a.now) ≡ option_map blank_expr (option_map expr_tree b.now)) }
+    ensures { IsTrue result ↔
+        (option_map blank_expr (option_map expr_tree a.now)
+        ≡ option_map blank_expr (option_map expr_tree b.now)) }
 {
     match (a, b) {
         (None, None) => true,
@@ -72,7 +80,9 @@ fn same_simple(a: &Simple, b: &Simple) -> bool
 }
 
 fn same_step(a: &Option<Simple>, b: &Option<Simple>) -> bool
-    ensures { IsTrue result ↔ (option_map blank_simple (option_map simple_tree a.now) ≡ option_map blank_simple (option_map simple_tree b.now)) }
+    ensures { IsTrue result ↔
+        (option_map blank_simple (option_map simple_tree a.now)
+        ≡ option_map blank_simple (option_map simple_tree b.now)) }
 {
     match (a, b) {
         (None, None) => true,
@@ -82,7 +92,9 @@ fn same_step(a: &Option<Simple>, b: &Option<Simple>) -> bool
 }
 
 fn same_start(a: &Option<Start>, b: &Option<Start>) -> bool
-    ensures { IsTrue result ↔ (option_map blank_start (option_map start_tree a.now) ≡ option_map blank_start (option_map start_tree b.now)) }
+    ensures { IsTrue result ↔
+        (option_map blank_start (option_map start_tree a.now)
+        ≡ option_map blank_start (option_map start_tree b.now)) }
 {
     match (a, b) {
         (None, None) => true,
@@ -104,7 +116,9 @@ fn same_printed(a: &Printed, b: &Printed) -> bool
 }
 
 fn same_operands(a: &[Printed], b: &[Printed]) -> bool
-    ensures { IsTrue result ↔ (map blank_printed (map printed_tree a.now) ≡ map blank_printed (map printed_tree b.now)) }
+    ensures { IsTrue result ↔
+        (map blank_printed (map printed_tree a.now)
+        ≡ map blank_printed (map printed_tree b.now)) }
 {
     all_same!(a, b, same_printed)
 }

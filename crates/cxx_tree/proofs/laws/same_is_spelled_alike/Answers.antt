@@ -1,4 +1,4 @@
-use Rattle.cxx_tree.proofs.Blanked.{spelled_alike}
+use Rattle.cxx_tree.proofs.Tokens.{spelled_alike}
 use Rattle.cxx_tree.proofs.laws.same_is_spelled_alike.Goals as goal
 
 pub returns : goal.returns

@@ -1,10 +1,9 @@
 use Rattle.std.proofs.Common.{◌≡◌, drop, map}
-use Rattle.std.specs.List.{flat_map}
 use Rattle.cxx_tree.specs.ProgramTree.{decl_tree}
-use Rattle.cxx_distinct.specs.NamesIn.{names_in_decl}
+use Rattle.cxx_distinct.specs.NamesIn.{names_in_each, names_in_decl}
 use Rattle.cxx_distinct.specs.Sights.{seen}
 use Rattle.cxx_distinct.proofs.sights.Sights.decls.Given as goal
 
 -- the names that were gone through, and then those of what is left, are all
 abbrev pub invariant-loop-decl : goal.invariant-loop-decl
-invariant-loop-decl l = seen l.self (flat_map names_in_decl (map decl_tree (drop l.decl-index l.decls))) ≡ seen l.fn.self (flat_map names_in_decl (map decl_tree l.decls))
+invariant-loop-decl l = seen l.self (names_in_each names_in_decl (map decl_tree (drop l.decl-index l.decls))) ≡ seen l.fn.self (names_in_each names_in_decl (map decl_tree l.decls))

@@ -1,10 +1,9 @@
 use Rattle.std.proofs.Common.{◌≡◌, drop, map}
-use Rattle.std.specs.List.{flat_map}
 use Rattle.cxx_tree.specs.StmtTree.{printed_tree}
-use Rattle.cxx_distinct.specs.NamesIn.{names_in_printed}
+use Rattle.cxx_distinct.specs.NamesIn.{names_in_each, names_in_printed}
 use Rattle.cxx_distinct.specs.Sights.{seen}
 use Rattle.cxx_distinct.proofs.sights.Sights.operands.Given as goal
 
 -- the names that were gone through, and then those of what is left, are all
 abbrev pub invariant-loop-operand : goal.invariant-loop-operand
-invariant-loop-operand l = seen l.self (flat_map names_in_printed (map printed_tree (drop l.operand-index l.operands))) ≡ seen l.fn.self (flat_map names_in_printed (map printed_tree l.operands))
+invariant-loop-operand l = seen l.self (names_in_each names_in_printed (map printed_tree (drop l.operand-index l.operands))) ≡ seen l.fn.self (names_in_each names_in_printed (map printed_tree l.operands))
