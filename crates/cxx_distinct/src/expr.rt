@@ -3,8 +3,8 @@
 
 ghost use Rattle.std.specs.Prelude.{◌≡◌, OnOk};
 ghost use Rattle.cxx_tree.specs.ExprTree.{expr_tree, exprs_tree, call_tree};
-ghost use Rattle.cxx_distinct.specs.NamesIn.{names_in_base, names_in_selector, names_in_left, names_in_callee};
-ghost use Rattle.cxx_distinct.specs.NamesIn.{names_in_expr, names_in_exprs, names_in_call};
+ghost use Rattle.cxx_distinct.specs.NamesIn.{names_in_base, names_in_selector, names_in_left};
+ghost use Rattle.cxx_distinct.specs.NamesIn.{names_in_callee, names_in_expr, names_in_exprs, names_in_call};
 ghost use Rattle.cxx_distinct.specs.Sights.{seen};
 
 use crate::sights::Sights;

@@ -7,6 +7,3 @@ mod sights;
 mod stmt;
 
 pub use program::name_past;
-
-#[cfg(test)]
-mod tests;

@@ -2,11 +2,11 @@
 #![tactic(auto, using(crate::proofs::Runs::seen_append))]
 
 ghost use Rattle.std.specs.Prelude.{◌≡◌, OnOk, IfOk, map};
-ghost use Rattle.cxx_tree.specs.ProgramTree.{function_tree, init_tree, ctor_tree, item_tree, class_tree, global_tree};
-ghost use Rattle.cxx_tree.specs.ProgramTree.{decl_tree, program_tree};
-ghost use Rattle.cxx_distinct.specs.NamesIn.{names_in_each, names_in_params, names_in_function, names_in_init};
-ghost use Rattle.cxx_distinct.specs.NamesIn.{names_in_ctor, names_in_item, names_in_base_of, names_in_class};
-ghost use Rattle.cxx_distinct.specs.NamesIn.{names_in_global, names_in_decl};
+ghost use Rattle.cxx_tree.specs.ProgramTree.{function_tree, init_tree, ctor_tree, item_tree};
+ghost use Rattle.cxx_tree.specs.ProgramTree.{class_tree, global_tree, decl_tree, program_tree};
+ghost use Rattle.cxx_distinct.specs.NamesIn.{names_in_each, names_in_params, names_in_function};
+ghost use Rattle.cxx_distinct.specs.NamesIn.{names_in_init, names_in_ctor, names_in_item, names_in_base_of};
+ghost use Rattle.cxx_distinct.specs.NamesIn.{names_in_class, names_in_global, names_in_decl};
 ghost use Rattle.cxx_distinct.specs.Sights.{seen};
 ghost use Rattle.cxx_distinct.specs.Sights as spec;
 

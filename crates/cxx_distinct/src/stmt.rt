@@ -3,13 +3,13 @@
 
 ghost use Rattle.std.specs.Prelude.{◌≡◌, OnOk, option_map, map};
 ghost use Rattle.cxx_tree.specs.ExprTree.{expr_tree};
-ghost use Rattle.cxx_tree.specs.StmtTree.{initial_tree, local_tree, simple_tree, printed_tree, start_tree};
-ghost use Rattle.cxx_tree.specs.StmtTree.{thread_tree, stmt_tree, stmts_tree, block_tree, if_tree, else_tree};
-ghost use Rattle.cxx_tree.specs.StmtTree.{while_tree, for_tree};
+ghost use Rattle.cxx_tree.specs.StmtTree.{initial_tree, local_tree, simple_tree, printed_tree};
+ghost use Rattle.cxx_tree.specs.StmtTree.{start_tree, thread_tree, stmt_tree, stmts_tree};
+ghost use Rattle.cxx_tree.specs.StmtTree.{block_tree, if_tree, else_tree, while_tree, for_tree};
 ghost use Rattle.cxx_distinct.specs.NamesIn.{names_in_each, names_in_optional, names_in_expr, names_in_initial};
-ghost use Rattle.cxx_distinct.specs.NamesIn.{names_in_local, names_in_simple, names_in_printed, names_in_start};
-ghost use Rattle.cxx_distinct.specs.NamesIn.{names_in_thread, names_in_stmt, names_in_stmts, names_in_block};
-ghost use Rattle.cxx_distinct.specs.NamesIn.{names_in_if, names_in_else};
+ghost use Rattle.cxx_distinct.specs.NamesIn.{names_in_local, names_in_simple, names_in_printed};
+ghost use Rattle.cxx_distinct.specs.NamesIn.{names_in_start, names_in_thread, names_in_stmt, names_in_stmts};
+ghost use Rattle.cxx_distinct.specs.NamesIn.{names_in_block, names_in_if, names_in_else};
 ghost use Rattle.cxx_distinct.specs.Sights.{seen};
 
 use crate::sights::Sights;
@@ -20,7 +20,8 @@ use cxx_tree::{
 
 impl Sights {
     fn optional(&mut self, expr: &Option<Expr>) -> Result<(), Memory>
-        ensures { OnOk result (self.new ≡ seen self.old (names_in_optional names_in_expr (option_map expr_tree expr.now))) }
+        ensures { OnOk result (self.new
+            ≡ seen self.old (names_in_optional names_in_expr (option_map expr_tree expr.now))) }
     {
         match expr {
             None => Ok(()),
@@ -29,7 +30,8 @@ impl Sights {
     }
 
     fn initial(&mut self, initial: &Option<Initial>) -> Result<(), Memory>
-        ensures { OnOk result (self.new ≡ seen self.old (names_in_optional names_in_initial (option_map initial_tree initial.now))) }
+        ensures { OnOk result (self.new
+            ≡ seen self.old (names_in_optional names_in_initial (option_map initial_tree initial.now))) }
     {
         match initial {
             None => Ok(()),
@@ -60,7 +62,8 @@ impl Sights {
     }
 
     fn step(&mut self, step: &Option<Simple>) -> Result<(), Memory>
-        ensures { OnOk result (self.new ≡ seen self.old (names_in_optional names_in_simple (option_map simple_tree step.now))) }
+        ensures { OnOk result (self.new
+            ≡ seen self.old (names_in_optional names_in_simple (option_map simple_tree step.now))) }
     {
         match step {
             None => Ok(()),
@@ -69,7 +72,8 @@ impl Sights {
     }
 
     fn start(&mut self, start: &Option<Start>) -> Result<(), Memory>
-        ensures { OnOk result (self.new ≡ seen self.old (names_in_optional names_in_start (option_map start_tree start.now))) }
+        ensures { OnOk result (self.new
+            ≡ seen self.old (names_in_optional names_in_start (option_map start_tree start.now))) }
     {
         match start {
             None => Ok(()),
@@ -89,7 +93,8 @@ impl Sights {
     }
 
     fn operands(&mut self, operands: &[Printed]) -> Result<(), Memory>
-        ensures { OnOk result (self.new ≡ seen self.old (names_in_each names_in_printed (map printed_tree operands.now))) }
+        ensures { OnOk result (self.new
+            ≡ seen self.old (names_in_each names_in_printed (map printed_tree operands.now))) }
     {
         for operand in operands {
             self.printed(operand)?;

@@ -5,6 +5,3 @@ mod layouts;
 mod parts;
 
 pub use layouts::{ClassList, Layout, Layouts, WordInfo};
-
-#[cfg(test)]
-mod tests;

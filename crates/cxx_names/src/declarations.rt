@@ -1,7 +1,8 @@
 //! The classes, functions and globals of a program.
 
 ghost use Rattle.std.specs.Prelude.{◌≡◌, suc, map, IfOk, OnOk};
-ghost use Rattle.cxx_tree.specs.ProgramTree.{item_tree, class_tree, function_tree, decl_tree, global_tree, program_tree};
+ghost use Rattle.cxx_tree.specs.ProgramTree.{item_tree, class_tree, function_tree};
+ghost use Rattle.cxx_tree.specs.ProgramTree.{decl_tree, global_tree, program_tree};
 ghost use Rattle.std.specs.Option.{option_copied};
 ghost use Rattle.cxx_names.specs.Declarations as spec;
 

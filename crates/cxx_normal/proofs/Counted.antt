@@ -1,5 +1,5 @@
 -- How many numbers are given.
-use Rattle.std.proofs.Common.{◌≡◌, ℕ, suc, ◌+◌, sym, ◌∙◌, arith}
+use Rattle.std.proofs.Common.{◌+◌, arith}
 use Rattle.cxx_tree.specs.Nodes.{counts}
 use Rattle.cxx_tree.specs.Walk.{IsFolded}
 use Rattle.cxx_tree.proofs.Counted as nodes
@@ -14,7 +14,7 @@ goes-on = record {
   of_join = λ k a b. omega arith;
   of_node = λ k n. omega arith;
   of_name = λ k n. omega arith;
-  of_type_name = λ k t. omega arith
+  of_type_name = λ k t. omega arith;
 }
 
 pub program-counted : NumbersAreCounted

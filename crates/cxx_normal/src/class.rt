@@ -17,7 +17,9 @@ use sqlite_items::Items;
 
 impl Numbering {
     pub(crate) fn function(&mut self, function: &Function) -> Result<Function, Memory>
-        ensures { Gives function_tree (number_function (function_tree function.now) self.old.next) result self.new.next }
+        ensures { Gives function_tree
+            (number_function (function_tree function.now) self.old.next)
+            result self.new.next }
     {
         let params = self.params(function.params.as_slice())?;
         let body = self.block(&function.body)?;
@@ -48,7 +50,9 @@ impl Numbering {
         item: &Item,
         listing: &mut Listing,
     ) -> Result<(), Memory>
-        ensures { OnOk result ((listing_tree listing.new, self.new.next) ≡ put_numbered (listing_tree listing.old, self.old.next) (assigning_item base members.now (item_tree item.now))) }
+        ensures { OnOk result ((listing_tree listing.new, self.new.next)
+            ≡ put_numbered (listing_tree listing.old, self.old.next)
+            (assigning_item base members.now (item_tree item.now))) }
     {
         match item {
             Item::Label(_, access) => {
@@ -69,7 +73,9 @@ impl Numbering {
         items: &[Item],
         listing: &mut Listing,
     ) -> Result<(), Memory>
-        ensures { OnOk result ((listing_tree listing.new, self.new.next) ≡ put_each (listing_tree listing.old, self.old.next) (map (assigning_item base members.now) (map item_tree items.now))) }
+        ensures { OnOk result ((listing_tree listing.new, self.new.next)
+            ≡ put_each (listing_tree listing.old, self.old.next)
+            (map (assigning_item base members.now) (map item_tree items.now))) }
     {
         for item in items {
             self.put(base, members, item, listing)?;
@@ -78,7 +84,9 @@ impl Numbering {
     }
 
     fn items(&mut self, class: &Class) -> Result<Items<Item>, Memory>
-        ensures { Gives (map item_tree) (number_each number_item (rebuilt_class (class_tree class.now)).items self.old.next) result self.new.next }
+        ensures { Gives (map item_tree)
+            (number_each number_item (rebuilt_class (class_tree class.now)).items self.old.next)
+            result self.new.next }
     {
         let items = class.items.as_slice();
         let members = Members::of(self.alloc, items)?;
@@ -89,7 +97,9 @@ impl Numbering {
     }
 
     pub(crate) fn class(&mut self, class: &Class) -> Result<Class, Memory>
-        ensures { Gives class_tree (number_class (rebuilt_class (class_tree class.now)) self.old.next) result self.new.next }
+        ensures { Gives class_tree
+            (number_class (rebuilt_class (class_tree class.now)) self.old.next)
+            result self.new.next }
     {
         let items = self.items(class)?;
         Ok(Class {

@@ -7,9 +7,11 @@ ghost use Rattle.cxx_tree.specs.StmtTree.{stmt_tree, stmts_tree, block_tree};
 ghost use Rattle.cxx_tree.specs.ProgramTree.{init_tree, ctor_tree};
 ghost use Rattle.cxx_normal.specs.Gives.{Gives, Adds};
 ghost use Rattle.cxx_normal.specs.Initialisers as spec;
-ghost use Rattle.cxx_normal.specs.Initialisers.{assignments_of, ctor_assigning, assigning_ctor, before_numbered, block_after_numbered};
+ghost use Rattle.cxx_normal.specs.Initialisers.{assignments_of, ctor_assigning, assigning_ctor};
+ghost use Rattle.cxx_normal.specs.Initialisers.{before_numbered, block_after_numbered};
 ghost use Rattle.cxx_normal.specs.Places.{assignment_at};
-ghost use Rattle.cxx_normal.specs.Numbers.{number_each, number_stmt, number_stmts, number_block, number_init, number_ctor};
+ghost use Rattle.cxx_normal.specs.Numbers.{number_each, number_stmt, number_stmts};
+ghost use Rattle.cxx_normal.specs.Numbers.{number_block, number_init, number_ctor};
 
 use crate::members::Members;
 use crate::names::{are_meant, names_base};
@@ -50,7 +52,9 @@ impl Numbering {
     }
 
     fn inits(&mut self, inits: &[Init]) -> Result<Items<Init>, Memory>
-        ensures { Gives (map init_tree) (number_each number_init (map init_tree inits.now) self.old.next) result self.new.next }
+        ensures { Gives (map init_tree)
+            (number_each number_init (map init_tree inits.now) self.old.next)
+            result self.new.next }
     {
         let mut copies = Items::new(self.alloc);
         for init in inits {
@@ -66,7 +70,9 @@ impl Numbering {
         init: &Init,
         copies: &mut Items<Init>,
     ) -> Result<(), Memory>
-        ensures { Adds init_tree (number_each number_init (spec.if_base base (init_tree init.now)) self.old.next) result copies.old copies.new self.new.next }
+        ensures { Adds init_tree
+            (number_each number_init (spec.if_base base (init_tree init.now)) self.old.next)
+            result copies.old copies.new self.new.next }
     {
         if names_base(base, init) {
             copies.push(self.init(init)?)?;
@@ -76,7 +82,9 @@ impl Numbering {
 
     /// The initialisers of the base.
     fn base_inits(&mut self, base: Option<Name>, inits: &[Init]) -> Result<Items<Init>, Memory>
-        ensures { Gives (map init_tree) (number_each number_init (filter (spec.names_base base) (map init_tree inits.now)) self.old.next) result self.new.next }
+        ensures { Gives (map init_tree)
+            (number_each number_init (filter (spec.names_base base) (map init_tree inits.now)) self.old.next)
+            result self.new.next }
     {
         let mut copies = Items::new(self.alloc);
         for init in inits {
@@ -87,7 +95,9 @@ impl Numbering {
 
     /// `this->m = value;`
     fn assignment(&mut self, name: Name, value: &Expr) -> Result<Stmt, Memory>
-        ensures { Gives stmt_tree (number_stmt (spec.assignment name (expr_tree value.now)) self.old.next) result self.new.next }
+        ensures { Gives stmt_tree
+            (number_stmt (spec.assignment name (expr_tree value.now)) self.old.next)
+            result self.new.next }
     {
         let left = self.left(own_member(name))?;
         let value = self.expr(value)?;
@@ -99,7 +109,10 @@ impl Numbering {
     }
 
     fn assignments_of(&mut self, init: &Init, stmts: &mut Items<Stmt>) -> Result<(), Memory>
-        ensures { Adds stmt_tree (number_each number_stmt (assignments_of (init_tree init.now).name (init_tree init.now).arguments) self.old.next) result stmts.old stmts.new self.new.next }
+        ensures { Adds stmt_tree
+            (number_each number_stmt
+            (assignments_of (init_tree init.now).name (init_tree init.now).arguments) self.old.next)
+            result stmts.old stmts.new self.new.next }
     {
         if let [value, ..] = init.arguments.as_slice() {
             stmts.push(self.assignment(init.name, value)?)?;
@@ -114,7 +127,9 @@ impl Numbering {
         place: usize,
         stmts: &mut Items<Stmt>,
     ) -> Result<(), Memory>
-        ensures { Adds stmt_tree (number_each number_stmt (assignment_at (map init_tree inits.now) place) self.old.next) result stmts.old stmts.new self.new.next }
+        ensures { Adds stmt_tree
+            (number_each number_stmt (assignment_at (map init_tree inits.now) place) self.old.next)
+            result stmts.old stmts.new self.new.next }
     {
         match inits.get(place) {
             Some(init) => self.assignments_of(init, stmts),
@@ -124,7 +139,9 @@ impl Numbering {
 
     /// The assignments of the initialisers at these places.
     fn assignments_at(&mut self, inits: &[Init], places: &[usize]) -> Result<Items<Stmt>, Memory>
-        ensures { Gives (map stmt_tree) (number_each number_stmt (flat_map (assignment_at (map init_tree inits.now)) places.now) self.old.next) result self.new.next }
+        ensures { Gives (map stmt_tree)
+            (number_each number_stmt (flat_map (assignment_at (map init_tree inits.now)) places.now) self.old.next)
+            result self.new.next }
     {
         let mut stmts = Items::new(self.alloc);
         for place in places {
@@ -141,7 +158,10 @@ impl Numbering {
         members: &Members,
     ) -> Result<Items<Stmt>, Memory>
         requires { spec.are_meant base members.now (map init_tree inits.now) ≡ true }
-        ensures { Gives (map stmt_tree) (number_each number_stmt (flat_map (spec.assignments_for base (map init_tree inits.now)) members.now) self.old.next) result self.new.next }
+        ensures { Gives (map stmt_tree)
+            (number_each number_stmt
+            (flat_map (spec.assignments_for base (map init_tree inits.now)) members.now) self.old.next)
+            result self.new.next }
     {
         let order = order(self.alloc, base, members, inits)?;
         self.assignments_at(inits, order.as_slice())
@@ -150,7 +170,9 @@ impl Numbering {
     /// Statements behind those that are there already.
     #[tactic(auto, using(crate::proofs::Bodies::stmts_append))]
     fn stmts_after(&mut self, front: Items<Stmt>, stmts: &[Stmt]) -> Result<Items<Stmt>, Memory>
-        ensures { Gives stmts_tree (before_numbered (map stmt_tree front) (number_stmts (stmts_tree stmts.now) self.old.next)) result self.new.next }
+        ensures { Gives stmts_tree
+            (before_numbered (map stmt_tree front) (number_stmts (stmts_tree stmts.now) self.old.next))
+            result self.new.next }
     {
         let mut all = front;
         all.append(self.stmts(stmts)?)?;
@@ -158,7 +180,9 @@ impl Numbering {
     }
 
     fn block_after(&mut self, front: Items<Stmt>, body: &Block) -> Result<Block, Memory>
-        ensures { Gives block_tree (block_after_numbered (map stmt_tree front) (number_block (block_tree body.now) self.old.next)) result self.new.next }
+        ensures { Gives block_tree
+            (block_after_numbered (map stmt_tree front) (number_block (block_tree body.now) self.old.next))
+            result self.new.next }
     {
         let stmts = self.stmts_after(front, body.stmts.as_slice())?;
         Ok(Block { at: body.at, stmts })
@@ -186,7 +210,9 @@ impl Numbering {
         ctor: &Ctor,
     ) -> Result<Ctor, Memory>
         requires { spec.are_meant base members.now (ctor_tree ctor.now).inits ≡ true }
-        ensures { Gives ctor_tree (number_ctor (ctor_assigning base members.now (ctor_tree ctor.now)) self.old.next) result self.new.next }
+        ensures { Gives ctor_tree
+            (number_ctor (ctor_assigning base members.now (ctor_tree ctor.now)) self.old.next)
+            result self.new.next }
     {
         let params = self.params(ctor.params.as_slice())?;
         let inits = self.base_inits(base, ctor.inits.as_slice())?;
@@ -207,7 +233,9 @@ impl Numbering {
         members: &Members,
         ctor: &Ctor,
     ) -> Result<Ctor, Memory>
-        ensures { Gives ctor_tree (number_ctor (assigning_ctor base members.now (ctor_tree ctor.now)) self.old.next) result self.new.next }
+        ensures { Gives ctor_tree
+            (number_ctor (assigning_ctor base members.now (ctor_tree ctor.now)) self.old.next)
+            result self.new.next }
     {
         if are_meant(self.alloc, base, members, ctor.inits.as_slice())? {
             return self.ctor_assigning(base, members, ctor);

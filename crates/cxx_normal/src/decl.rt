@@ -29,7 +29,8 @@ fn add_forward(decl: &Decl, copies: &mut Items<Decl>) -> Result<(), Memory>
 }
 
 fn add_forwards(decls: &[Decl], copies: &mut Items<Decl>) -> Result<(), Memory>
-    ensures { OnOk result (map decl_tree copies.new ≡ map decl_tree copies.old ++ flat_map order.forward (map decl_tree decls.now)) }
+    ensures { OnOk result (map decl_tree copies.new
+        ≡ map decl_tree copies.old ++ flat_map order.forward (map decl_tree decls.now)) }
 {
     for decl in decls {
         add_forward(decl, copies)?;
@@ -56,7 +57,8 @@ impl Numbering {
         decl: &Decl,
         copies: &mut Items<Decl>,
     ) -> Result<(), Memory>
-        ensures { OnOk result (map decl_tree copies.new ≡ map decl_tree copies.old ++ order.prototype main.0 (decl_tree decl.now)) }
+        ensures { OnOk result (map decl_tree copies.new
+            ≡ map decl_tree copies.old ++ order.prototype main.0 (decl_tree decl.now)) }
     {
         if let Decl::Function(function) = decl
             && function.name.item.0 != main.0
@@ -72,7 +74,8 @@ impl Numbering {
         decls: &[Decl],
         copies: &mut Items<Decl>,
     ) -> Result<(), Memory>
-        ensures { OnOk result (map decl_tree copies.new ≡ map decl_tree copies.old ++ flat_map (order.prototype main.0) (map decl_tree decls.now)) }
+        ensures { OnOk result (map decl_tree copies.new
+            ≡ map decl_tree copies.old ++ flat_map (order.prototype main.0) (map decl_tree decls.now)) }
     {
         for decl in decls {
             self.add_prototype(main, decl, copies)?;
@@ -108,7 +111,9 @@ impl Numbering {
         decl: &Decl,
         copies: &mut Items<Decl>,
     ) -> Result<(), Memory>
-        ensures { Adds decl_tree (number_each number_decl (order.kept (rebuilt_decl main.0 (decl_tree decl.now))) self.old.next) result copies.old copies.new self.new.next }
+        ensures { Adds decl_tree
+            (number_each number_decl (order.kept (rebuilt_decl main.0 (decl_tree decl.now))) self.old.next)
+            result copies.old copies.new self.new.next }
     {
         match decl {
             Decl::Class(class) => copies.push(Decl::Class(self.class(class)?))?,
@@ -128,7 +133,10 @@ impl Numbering {
         decls: &[Decl],
         copies: &mut Items<Decl>,
     ) -> Result<(), Memory>
-        ensures { Adds decl_tree (number_each number_decl (flat_map order.kept (map (rebuilt_decl main.0) (map decl_tree decls.now))) self.old.next) result copies.old copies.new self.new.next }
+        ensures { Adds decl_tree
+            (number_each number_decl
+            (flat_map order.kept (map (rebuilt_decl main.0) (map decl_tree decls.now))) self.old.next)
+            result copies.old copies.new self.new.next }
     {
         for decl in decls {
             self.add_kept(main, decl, copies)?;
@@ -138,7 +146,10 @@ impl Numbering {
 
     /// The declarations of a program in order, where `main` is the number of the name `main`.
     pub(crate) fn decls(&mut self, main: NameId, decls: &[Decl]) -> Result<Items<Decl>, Memory>
-        ensures { Gives (map decl_tree) (number_each number_decl (ordered main.0 (map (rebuilt_decl main.0) (map decl_tree decls.now))) self.old.next) result self.new.next }
+        ensures { Gives (map decl_tree)
+            (number_each number_decl
+            (ordered main.0 (map (rebuilt_decl main.0) (map decl_tree decls.now))) self.old.next)
+            result self.new.next }
     {
         let mut copies = Items::new(self.alloc);
         add_forwards(decls, &mut copies)?;

@@ -44,7 +44,9 @@ impl Numbering {
 
     #[tactic(auto, using(crate::proofs::Bodies::at_end))]
     fn with_return_zero(&mut self, at: Place, stmts: &[Stmt]) -> Result<Items<Stmt>, Memory>
-        ensures { Gives stmts_tree (number_stmts (followed_by (stmts_tree stmts.now) (spec.return_zero at)) self.old.next) result self.new.next }
+        ensures { Gives stmts_tree
+            (number_stmts (followed_by (stmts_tree stmts.now) (spec.return_zero at)) self.old.next)
+            result self.new.next }
     {
         let mut copies = self.stmts(stmts)?;
         copies.push(self.return_zero(at)?)?;
@@ -52,7 +54,9 @@ impl Numbering {
     }
 
     fn returning_stmts(&mut self, at: Place, stmts: &[Stmt]) -> Result<Items<Stmt>, Memory>
-        ensures { Gives stmts_tree (number_stmts (returning_stmts at (stmts_tree stmts.now)) self.old.next) result self.new.next }
+        ensures { Gives stmts_tree
+            (number_stmts (returning_stmts at (stmts_tree stmts.now)) self.old.next)
+            result self.new.next }
     {
         if ends_with_return(stmts) {
             return self.stmts(stmts);
@@ -61,7 +65,9 @@ impl Numbering {
     }
 
     fn returning_block(&mut self, at: Place, block: &Block) -> Result<Block, Memory>
-        ensures { Gives block_tree (number_block (returning_block at (block_tree block.now)) self.old.next) result self.new.next }
+        ensures { Gives block_tree
+            (number_block (returning_block at (block_tree block.now)) self.old.next)
+            result self.new.next }
     {
         let stmts = self.returning_stmts(at, block.stmts.as_slice())?;
         Ok(Block {
@@ -76,7 +82,9 @@ impl Numbering {
         main: NameId,
         function: &Function,
     ) -> Result<Function, Memory>
-        ensures { Gives function_tree (number_function (returning main.0 (function_tree function.now)) self.old.next) result self.new.next }
+        ensures { Gives function_tree
+            (number_function (returning main.0 (function_tree function.now)) self.old.next)
+            result self.new.next }
     {
         if function.name.item.0 != main.0 {
             return self.function(function);

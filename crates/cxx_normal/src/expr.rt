@@ -48,7 +48,9 @@ impl Numbering {
     // a new object with arguments
     #[cycle(expr)]
     fn created(&mut self, node: Node, class: Name, arguments: &[Expr]) -> Result<Expr, Memory>
-        ensures { Gives expr_tree (number_expr (new_with node class (exprs_tree arguments.now)) self.old.next) result self.new.next }
+        ensures { Gives expr_tree
+            (number_expr (new_with node class (exprs_tree arguments.now)) self.old.next)
+            result self.new.next }
     {
         let node = self.node(node)?;
         let arguments = self.exprs(arguments)?;

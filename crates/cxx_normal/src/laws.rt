@@ -1,6 +1,7 @@
 //! Laws of the normal form.
 
-ghost use Rattle.cxx_normal.specs.Normal.{NormalIsIdempotent, NumberingChangesNumbers, NumbersAreCounted, LabelsKeepAccess};
+ghost use Rattle.cxx_normal.specs.Normal.{NormalIsIdempotent, NumberingChangesNumbers};
+ghost use Rattle.cxx_normal.specs.Normal.{NumbersAreCounted, LabelsKeepAccess};
 
 /// The normal form of a normal form is itself, to the last place and number.
 pub fn normal_is_idempotent()

@@ -22,6 +22,3 @@ pub use laws::{
     labels_keep_access, normal_is_idempotent, numbering_changes_numbers, numbers_are_counted,
 };
 pub use program::normal;
-
-#[cfg(test)]
-mod tests;

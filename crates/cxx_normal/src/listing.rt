@@ -137,7 +137,8 @@ impl Listing {
         name: Name,
         items: &[Item],
     ) -> Result<(), Memory>
-        ensures { OnOk result (listing_tree self.new ≡ put_all (listing_tree self.old) (made name (map item_tree items.now))) }
+        ensures { OnOk result (listing_tree self.new
+            ≡ put_all (listing_tree self.old) (made name (map item_tree items.now))) }
     {
         if !has_ctor(items) {
             self.add_ctor(alloc, name)?;

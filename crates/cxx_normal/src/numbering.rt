@@ -2,7 +2,8 @@
 
 ghost use Rattle.std.specs.Prelude.{◌≡◌, ◌^◌, ◌≤◌, suc, IfOk, OnOk};
 ghost use Rattle.cxx_normal.specs.Gives.{Gives};
-ghost use Rattle.cxx_normal.specs.Numbers.{numbered, number_ref, number_base, number_selector, number_left, number_callee};
+ghost use Rattle.cxx_normal.specs.Numbers.{numbered, number_ref, number_base};
+ghost use Rattle.cxx_normal.specs.Numbers.{number_selector, number_left, number_callee};
 
 use agxx_base::{Memory, NodeId, Text};
 use cxx_tree::{Base, Callee, Left, Node, Param, Quoted, Ref, Selector};

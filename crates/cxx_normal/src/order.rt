@@ -20,7 +20,8 @@ fn put_at(
     places: &[usize],
     number: usize,
 ) -> Result<(), Memory>
-    ensures { OnOk result ((place : ℕ) → get nat_cmp numbers.new place ≡ (if list_any (nat_eq place) places.now then Some number else get nat_cmp numbers.old place)) }
+    ensures { OnOk result ((place : ℕ) → get nat_cmp numbers.new place
+        ≡ (if list_any (nat_eq place) places.now then Some number else get nat_cmp numbers.old place)) }
 {
     for place in places {
         numbers.insert(*place, number)?;
@@ -35,7 +36,8 @@ fn numbers_by_place(
     members: &Members,
     inits: &[Init],
 ) -> Result<BTreeMap<usize, usize>, Memory>
-    ensures { IfOk result (λ numbers. (place : ℕ) → get nat_cmp numbers place ≡ init_at base members.now (map init_tree inits.now) place) }
+    ensures { IfOk result (λ numbers. (place : ℕ) → get nat_cmp numbers place
+        ≡ init_at base members.now (map init_tree inits.now) place) }
 {
     let mut numbers = BTreeMap::new(alloc);
     for (number, init) in inits.iter().enumerate() {

@@ -37,8 +37,8 @@ fn normal_with(alloc: Global, program: &Program, main: NameId) -> Result<Program
     })
 }
 
-/// The normal form of a program, as a new tree. `main` gets a number among the names. Without memory, and where a program
-/// would have more than 2^32 nodes, there is none.
+/// The normal form of a program, as a new tree. `main` gets a number among the names. Without memory, and where a
+/// program would have more than 2^32 nodes, there is none.
 pub fn normal(alloc: Global, program: &Program, names: &mut Names) -> Result<Program, Memory>
     ensures normal { IfOk result (λ p. program_tree p ≡ normal_among names.new (program_tree program.now)) }
     ensures names { OnOk result (names.new ≡ with_main names.old) }

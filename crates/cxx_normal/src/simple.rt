@@ -2,10 +2,12 @@
 
 ghost use Rattle.std.specs.Prelude.{map, option_map};
 ghost use Rattle.cxx_tree.specs.ExprTree.{expr_tree};
-ghost use Rattle.cxx_tree.specs.StmtTree.{initial_tree, local_tree, assign_tree, simple_tree, printed_tree, print_tree, thread_tree, start_tree};
+ghost use Rattle.cxx_tree.specs.StmtTree.{initial_tree, local_tree, assign_tree, simple_tree};
+ghost use Rattle.cxx_tree.specs.StmtTree.{printed_tree, print_tree, thread_tree, start_tree};
 ghost use Rattle.cxx_normal.specs.Gives.{Gives};
-ghost use Rattle.cxx_normal.specs.Numbers.{number_optional, number_each, number_expr, number_initial, number_local, number_assign};
-ghost use Rattle.cxx_normal.specs.Numbers.{number_bump, number_simple, number_printed, number_print, number_thread, number_start};
+ghost use Rattle.cxx_normal.specs.Numbers.{number_optional, number_each, number_expr, number_initial};
+ghost use Rattle.cxx_normal.specs.Numbers.{number_local, number_assign, number_bump, number_simple};
+ghost use Rattle.cxx_normal.specs.Numbers.{number_printed, number_print, number_thread, number_start};
 
 use crate::numbering::Numbering;
 use agxx_base::Memory;
@@ -14,7 +16,9 @@ use sqlite_items::Items;
 
 impl Numbering {
     pub(crate) fn optional(&mut self, expr: &Option<Expr>) -> Result<Option<Expr>, Memory>
-        ensures { Gives (option_map expr_tree) (number_optional number_expr (option_map expr_tree expr.now) self.old.next) result self.new.next }
+        ensures { Gives (option_map expr_tree)
+            (number_optional number_expr (option_map expr_tree expr.now) self.old.next)
+            result self.new.next }
     {
         match expr {
             None => Ok(None),
@@ -23,7 +27,9 @@ impl Numbering {
     }
 
     fn initial(&mut self, initial: &Option<Initial>) -> Result<Option<Initial>, Memory>
-        ensures { Gives (option_map initial_tree) (number_optional number_initial (option_map initial_tree initial.now) self.old.next) result self.new.next }
+        ensures { Gives (option_map initial_tree)
+            (number_optional number_initial (option_map initial_tree initial.now) self.old.next)
+            result self.new.next }
     {
         match initial {
             None => Ok(None),
@@ -84,7 +90,9 @@ impl Numbering {
     }
 
     pub(crate) fn step(&mut self, step: &Option<Simple>) -> Result<Option<Simple>, Memory>
-        ensures { Gives (option_map simple_tree) (number_optional number_simple (option_map simple_tree step.now) self.old.next) result self.new.next }
+        ensures { Gives (option_map simple_tree)
+            (number_optional number_simple (option_map simple_tree step.now) self.old.next)
+            result self.new.next }
     {
         match step {
             None => Ok(None),
@@ -93,7 +101,9 @@ impl Numbering {
     }
 
     pub(crate) fn start(&mut self, start: &Option<Start>) -> Result<Option<Start>, Memory>
-        ensures { Gives (option_map start_tree) (number_optional number_start (option_map start_tree start.now) self.old.next) result self.new.next }
+        ensures { Gives (option_map start_tree)
+            (number_optional number_start (option_map start_tree start.now) self.old.next)
+            result self.new.next }
     {
         match start {
             None => Ok(None),
@@ -113,7 +123,9 @@ impl Numbering {
     }
 
     fn operands(&mut self, operands: &[Printed]) -> Result<Items<Printed>, Memory>
-        ensures { Gives (map printed_tree) (number_each number_printed (map printed_tree operands.now) self.old.next) result self.new.next }
+        ensures { Gives (map printed_tree)
+            (number_each number_printed (map printed_tree operands.now) self.old.next)
+            result self.new.next }
     {
         let mut copies = Items::new(self.alloc);
         for operand in operands {

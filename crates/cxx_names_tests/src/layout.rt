@@ -1,7 +1,7 @@
 //! Layouts that were worked out by hand.
 
-use crate::{Layouts, WordInfo};
 use agxx_base::{ClassId, ListOf, Memory, NameId, Names, NumKind, Place};
+use cxx_layout::{Layouts, WordInfo};
 use cxx_names::Declared;
 use cxx_tree::{Class, ClassWord, Decl, Item, Member, Name, Placed, Program, TypeName};
 use sqlite_items::Items;

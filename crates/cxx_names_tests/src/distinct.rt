@@ -1,7 +1,7 @@
 //! Programs whose distinct names were counted by hand.
 
-use crate::name_past;
 use agxx_base::{Memory, NameId, NodeId, Place};
+use cxx_distinct::name_past;
 use cxx_tree::{
     Base, BinOp, Block, ClassName, ClassWord, Decl, Expr, Function, Global, Left, Name, Node,
     Param, Placed, Program, Proto, Ref, Selector, Stmt, TypeName, Variable,

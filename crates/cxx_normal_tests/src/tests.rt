@@ -1,7 +1,7 @@
 //! Programs and their normal forms, worked out by hand from its rules.
 
-use crate::normal;
 use agxx_base::{Header, Memory, NameId, Names, NodeId, NumKind, Place};
+use cxx_normal::normal;
 use cxx_tree::{
     Access, Block, Class, ClassWord, Ctor, Decl, Directive, Expr, Function, Init, Item, Left,
     Member, Name, Node, Number, Placed, Program, Simple, Stmt, TypeName, node_count, same,
