@@ -43,6 +43,3 @@ pub use status::Status;
 pub use text::Text;
 pub use vocabulary::{Header, Keyword, Sign, SpecialName};
 pub use whole::{ReadError, read_whole, write_whole};
-
-#[cfg(test)]
-mod tests;

@@ -17,6 +17,3 @@ pub use laws::{
 };
 pub use unary::{apply_one, convert};
 pub use value::{ArithStop, Value, flag, number};
-
-#[cfg(test)]
-mod tests;

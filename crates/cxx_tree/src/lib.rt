@@ -39,6 +39,3 @@ pub use stmt::{
     Assign, Block, Bump, Else, For, If, Initial, Local, Print, Printed, Simple, Start, Stmt,
     Thread, While,
 };
-
-#[cfg(test)]
-mod tests;

@@ -29,6 +29,3 @@ mod seen;
 pub use flip::PlannedFlip;
 pub use plan::{Plan, default_plan};
 pub use read::read_plan;
-
-#[cfg(test)]
-mod tests;

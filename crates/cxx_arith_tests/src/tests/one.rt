@@ -2,8 +2,8 @@
 //! `benches/arithmetic_table.sh`.
 
 use super::two::Expected;
-use crate::ArithStop::Overflow;
 use agxx_base::NumKind::{self, Bool, I8, I16, I32, I64, U8, U16, U32, U64};
+use cxx_arith::ArithStop::Overflow;
 
 /// A number, by its kind and its bits.
 pub(super) type Number = (NumKind, u64);

@@ -1,7 +1,7 @@
 //! Plans whose meanings and refusals were worked out by hand.
 
-use crate::{Plan, default_plan, read_plan};
 use agxx_base::{Fault, LARGEST_TEXT, Text};
+use flip_plan::{Plan, default_plan, read_plan};
 use std::alloc::Global;
 use std::test::Fail;
 

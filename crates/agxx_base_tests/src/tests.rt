@@ -1,6 +1,6 @@
 //! Happy paths, calls that fail in turn, and the real files, which no clause speaks of.
 
-use crate::{
+use agxx_base::{
     DiskFiles, Failed, Files, MemFiles, MemSink, Names, ReadError, StdSink, Text, Words,
     read_whole, write_whole,
 };

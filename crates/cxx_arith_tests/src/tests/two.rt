@@ -1,7 +1,7 @@
 //! What g++ gives for operators with two operands, by `benches/arithmetic_table.sh`.
 
-use crate::ArithStop::{self, Overflow, Shift, ZeroDivisor};
 use agxx_base::NumKind::{self, Bool, I8, I16, I32, I64, U8, U16, U32, U64};
+use cxx_arith::ArithStop::{self, Overflow, Shift, ZeroDivisor};
 
 /// Two operands, each by its kind and its bits.
 pub(super) type Operands = (NumKind, u64, NumKind, u64);

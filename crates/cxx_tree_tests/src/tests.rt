@@ -1,5 +1,5 @@
-use crate::*;
 use agxx_base::{NameId, NodeId, NumKind, Place};
+use cxx_tree::*;
 use sqlite_items::{Boxed, Items};
 use std::alloc::{AllocError, Global};
 use std::test::Fail;

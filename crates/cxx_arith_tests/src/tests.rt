@@ -1,8 +1,8 @@
 ghost use Rattle.std.specs.Prelude.{IsTrue};
 ghost use Rattle.cxx_arith.specs.Arithmetic.{is_arithmetic, is_arithmetic_one};
 
-use crate::*;
 use agxx_base::NumKind;
+use cxx_arith::*;
 use cxx_tree::{BinOp, UnOp};
 use one::Number;
 use std::test::Fail;
