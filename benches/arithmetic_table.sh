@@ -1,8 +1,8 @@
 #!/bin/sh
 # Writes what g++ gives for each operator and conversion on numbers at the borders of their kinds, as constants for the
 # tests of cxx_arith. For the operators with two operands, and for the rest:
-#     benches/arithmetic_table.sh two > crates/cxx_arith/src/tests/two.rt
-#     benches/arithmetic_table.sh one > crates/cxx_arith/src/tests/one.rt
+#     benches/arithmetic_table.sh two > crates/cxx_arith_tests/src/tests/two.rt
+#     benches/arithmetic_table.sh one > crates/cxx_arith_tests/src/tests/one.rt
 # and then `rt fmt` in that crate. A constant expression has no undefined behaviour, so a case that g++ doesn't take as
 # one is a stop.
 folder=$(mktemp -d) || exit 2
@@ -122,7 +122,7 @@ template <class T, class... R> void converted(const char *name, List<R...>) {
 
 void two() {
     std::printf("//! What g++ gives for operators with two operands, by `benches/arithmetic_table.sh`.\n\n"
-                "use crate::ArithStop::{self, Overflow, Shift, ZeroDivisor};\n"
+                "use cxx_arith::ArithStop::{self, Overflow, Shift, ZeroDivisor};\n"
                 "use agxx_base::NumKind::{self, Bool, I8, I16, I32, I64, U8, U16, U32, U64};\n\n"
                 "/// Two operands, each by its kind and its bits.\n"
                 "pub(super) type Operands = (NumKind, u64, NumKind, u64);\n\n"
@@ -152,7 +152,7 @@ void one() {
     std::printf("//! What g++ gives for operators with one operand and for conversions, by\n"
                 "//! `benches/arithmetic_table.sh`.\n\n"
                 "use super::two::Expected;\n"
-                "use crate::ArithStop::Overflow;\n"
+                "use cxx_arith::ArithStop::Overflow;\n"
                 "use agxx_base::NumKind::{self, Bool, I8, I16, I32, I64, U8, U16, U32, U64};\n\n"
                 "/// A number, by its kind and its bits.\n"
                 "pub(super) type Number = (NumKind, u64);\n");
