@@ -5,6 +5,7 @@
 
 mod answer;
 mod buffer;
+mod command;
 mod commands;
 mod files;
 mod line;

@@ -13,7 +13,7 @@ use cxx_elaborate::elaborate;
 use cxx_names::Declared;
 use cxx_tree::Program;
 use flip_plan::Plan;
-use plan_runs::{Report, Watch};
+use plan_runs::{Report, RunError, Watch};
 use source_steps::SourceRun;
 use std::alloc::Global;
 use step_setting::Setting;
@@ -46,7 +46,7 @@ fn run_woven(alloc: Global, plan: &Plan, file: &Text, setting: &Setting) -> Resu
     let mut out = Buffer::new(alloc);
     match run.run(plan, &mut out, &mut watch) {
         Ok(report) => answer_run(alloc, file, setting, out.into_text(), report),
-        Err(_) => Err(Memory),
+        Err(RunError::Memory | RunError::WriteFault) => Err(Memory),
     }
 }
 
@@ -58,7 +58,7 @@ fn run_source(alloc: Global, plan: &Plan, file: &Text, setting: &Setting) -> Res
     let mut out = Buffer::new(alloc);
     match run.run(plan, &mut out) {
         Ok(report) => answer_run(alloc, file, setting, out.into_text(), report),
-        Err(_) => Err(Memory),
+        Err(RunError::Memory | RunError::WriteFault) => Err(Memory),
     }
 }
 

@@ -6,17 +6,25 @@ ghost use Rattle.agxx_main.specs.Outcome.{Ends, Gets, GivesUp};
 ghost use Rattle.agxx_main.specs.Laws.{HasOneAnswer, UsageHasAnswer, CommandHasAnswer, DueIsAnswer};
 
 use crate::answer::Answer;
-use crate::commands::{exec, exec_plan, source};
-use crate::words::{Command, read_command};
+use crate::commands::answer_call;
+use crate::words::read_call;
 use agxx_base::{Files, Memory, Sink, Status, Words, write_whole};
 use std::alloc::Global;
 
 /// Writes an answer to standard output and then to standard error, or tells that memory was refused.
 fn deliver<O: Sink, E: Sink>(answer: Result<Answer, Memory>, out: &mut O, diag: &mut E) -> Status
-    ensures given { IfOk answer (λ a. Gets a (O.taken out.old) (O.taken out.new) (E.taken diag.old) (E.taken diag.new) (Rose (O.faults out.old) (O.faults out.new)) (Rose (E.faults diag.old) (E.faults diag.new)) result) }
+    ensures given {
+        IfOk answer (λ a. Gets a (O.taken out.old) (O.taken out.new)
+            (E.taken diag.old) (E.taken diag.new)
+            (Rose (O.faults out.old) (O.faults out.new))
+            (Rose (E.faults diag.old) (E.faults diag.new)) result)
+    }
     ensures out_later { O.faults out.old ≤ O.faults out.new }
     ensures diag_later { E.faults diag.old ≤ E.faults diag.new }
-    ensures memory { OnErr answer (GivesUp (O.taken out.old) (O.taken out.new) (E.taken diag.old) (E.taken diag.new) result) }
+    ensures memory {
+        OnErr answer (GivesUp (O.taken out.old) (O.taken out.new)
+            (E.taken diag.old) (E.taken diag.new) result)
+    }
 {
     let Ok(answer) = answer else {
         return Status::Memory;
@@ -39,24 +47,24 @@ pub fn agxx<F: Files, O: Sink, E: Sink>(
     out: &mut O,
     diag: &mut E,
 ) -> Status
-    ensures ends { Ends words.now (F.listed files.old) (F.faults files.old) (F.faults files.new) (O.taken out.old) (O.taken out.new) (E.taken diag.old) (E.taken diag.new)
-        (Rose (O.faults out.old) (O.faults out.new)) (Rose (E.faults diag.old) (E.faults diag.new)) result }
+    ensures ends {
+        Ends words.now (F.listed files.old) (F.faults files.old) (F.faults files.new)
+            (O.taken out.old) (O.taken out.new) (E.taken diag.old) (E.taken diag.new)
+            (Rose (O.faults out.old) (O.faults out.new))
+            (Rose (E.faults diag.old) (E.faults diag.new)) result
+    }
     ensures listed { F.listed files.new ≡ F.listed files.old }
     // No count of faults falls.
     ensures files_later { F.faults files.old ≤ F.faults files.new }
     ensures out_later { O.faults out.old ≤ O.faults out.new }
     ensures diag_later { E.faults diag.old ≤ E.faults diag.new }
 {
-    match read_command(words) {
-        None => deliver(Answer::usage(alloc), out, diag),
-        Some(Command::Exec(file)) => deliver(exec(alloc, file, files), out, diag),
-        Some(Command::ExecPlan(file, plan)) => {
-            deliver(exec_plan(alloc, file, plan, files), out, diag)
-        }
-        Some(Command::Source(plan, file)) => {
-            deliver(source(alloc, plan, file, files), out, diag)
-        }
-    }
+    let answer = match read_call(alloc, words) {
+        Err(Memory) => Err(Memory),
+        Ok(None) => Answer::usage(alloc),
+        Ok(Some(call)) => answer_call(alloc, &call, files),
+    };
+    deliver(answer, out, diag)
 }
 
 /// There is an answer for all words and files, and one alone, but for whether and where a file that is no program within the
