@@ -16,6 +16,10 @@ Listing = List (List ℕ × List ℕ)
 abbrev pub file_named : List ℕ → Listing → Option (List ℕ)
 file_named name files = option_map (λ file. file.1) (find (λ file. bytes_eq name file.0) files)
 
+-- more bytes are left than so many, where the list of files is told
+abbrev pub IsLonger : Option Listing → ℕ → List ℕ → Type 0
+IsLonger listed limit left = IfSome listed (λ _. limit < length left)
+
 -- What starting a file answers, by the list of files where it is told: Ok(true) with all of the file's bytes left, or
 -- Ok(false) where the list lacks the name. `Ok(false)` is no fault, and comes only where the list is told.
 pub record Starts (listed : Option Listing) (name : List ℕ) (before now : ℕ) (left : List ℕ) (result : Result Bool Failed) : Type 0 where

@@ -1,6 +1,6 @@
 -- A sink in memory, and exactly what writing to it does.
-use Rattle.std.specs.Prelude.{ℕ, ◌≡◌, ◌-◌, min, ◌||◌, ◌&&◌, List, ◌++◌, take, Option, is_err, unwrap_or, nat_lt, ◌==◌, Result, IfOk, OnErr}
-use Rattle.agxx_base.specs.Calls.{CallsState, counted, fails, after_call}
+use Rattle.std.specs.Prelude.{ℕ, ◌≡◌, ◌-◌, min, ◌||◌, ◌&&◌, List, [], ◌++◌, length, take, Option, None, is_err, unwrap_or, nat_lt, ◌==◌, Result, IfOk, OnErr}
+use Rattle.agxx_base.specs.Calls.{CallsState, no_calls, counted, fails, after_call}
 use Rattle.agxx_base.specs.Pieces.{bytes_of}
 use Rattle.agxx_base.specs.declared.piece.Piece.{Piece}
 use Rattle.agxx_base.specs.declared.fault.Failed.{Failed}
@@ -12,6 +12,14 @@ pub record SinkState : Type 0 where
   pub limit : Option ℕ
   pub writes : CallsState
   pub faults : ℕ
+
+-- no bytes taken, and room for so many
+abbrev pub empty_sink : ℕ → SinkState
+empty_sink room = record { taken = []; room = room; limit = None; writes = no_calls; faults = 0 }
+
+-- the sink once it took these bytes
+abbrev pub sink_with : SinkState → List ℕ → SinkState
+sink_with sink bytes = record sink { taken = sink.taken ++ bytes; room = sink.room - length bytes }
 
 -- how many of n bytes a write takes: what there are, up to the limit and the room
 abbrev pub accepted : SinkState → ℕ → ℕ

@@ -1,20 +1,6 @@
 -- The order of refusals, and the one that is told of several.
-use Rattle.std.specs.Prelude.{
-  ℕ,
-  ◌≡◌,
-  ◌⊎◌,
-  Bool,
-  true,
-  false,
-  nat_lt,
-  if◌then◌else◌,
-  List,
-  [],
-  ◌∷◌,
-  Option,
-  Some,
-  None,
-}
+use Rattle.std.specs.Prelude.{ℕ, ◌≡◌, ◌⊎◌, Bool, true, false, nat_lt, if◌then◌else◌}
+use Rattle.std.specs.Prelude.{List, [], ◌∷◌, Option, Some, None}
 use Rattle.agxx_base.specs.declared.fault.Fault.{Fault}
 use Rattle.agxx_base.specs.declared.fault.Fault.TheVariants as fault
 use Rattle.agxx_base.specs.declared.fault.Refusal.{Refusal}

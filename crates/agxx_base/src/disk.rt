@@ -8,8 +8,8 @@ use std::fs;
 use std::io::{Read, Write};
 use std::rt::Files as FileSystem;
 
-/// The files of the system, by their paths. A file that can't be opened, a name that isn't UTF-8, a failed read and want of
-/// memory in the system are faults.
+/// The files of the system, by their paths. A file that can't be opened, a name that isn't UTF-8, a failed read and
+/// want of memory in the system are faults.
 #[derive(Drop)]
 pub struct DiskFiles<'r, R: FileSystem> {
     runtime: &'r R,
@@ -70,8 +70,8 @@ impl<R: FileSystem> Files for DiskFiles<'_, R> {
     }
 }
 
-/// A writer of the system, as standard output or error. Each write is flushed, so nothing is held back at the end. A failed
-/// write or flush, and a write that takes nothing of a piece with bytes, are faults.
+/// A writer of the system, as standard output or error. Each write is flushed, so nothing is held back at the end. A
+/// failed write or flush, and a write that takes nothing of a piece with bytes, are faults.
 #[derive(Drop)]
 pub struct StdSink<W: Write + Drop> {
     writer: W,

@@ -37,7 +37,7 @@ pub use place::Place;
 pub use refusals::{is_before, least, least_is_least, nearer};
 pub use rule::Rule;
 pub use sink::Sink;
-pub use sizes::{DEEPEST_CALLS, LARGEST_OUTPUT, LARGEST_SOURCE, LARGEST_TEXT, MOST_OBJECTS};
+pub use sizes::{DEPTH_LIMIT, LARGEST_SOURCE, LARGEST_TEXT, OBJECT_LIMIT, OUTPUT_LIMIT};
 pub use source::Files;
 pub use status::Status;
 pub use text::Text;

@@ -1,6 +1,7 @@
 //! Files in memory, whose calls fail where they are told to.
 
-ghost use Rattle.std.specs.Prelude.{◌≡◌, ◌≤◌, ◌<◌, ◌+◌, ◌∷◌, ◌++◌, [], OnOk, OnErr, Some, is_some, unwrap_or, position, length, min, take, drop};
+ghost use Rattle.std.specs.Prelude.{◌≡◌, ◌≤◌, ◌<◌, ◌+◌, ◌∷◌, ◌++◌, [], length, min, take, drop};
+ghost use Rattle.std.specs.Prelude.{OnOk, OnErr, Some, is_some, unwrap_or, position};
 ghost use Rattle.std.specs.Str.{bytes_eq};
 ghost use Rattle.agxx_base.specs.Causes.{HasCause};
 ghost use Rattle.agxx_base.specs.Calls.{no_calls, failing_at};

@@ -1,9 +1,9 @@
 //! A sink in memory, whose calls fail where they are told to.
 
-ghost use Rattle.std.specs.Prelude.{◌≡◌, ◌≤◌, ◌<◌, ◌+◌, ◌-◌, ◌++◌, [], OnOk, OnErr, IfOk, Some, None, take, length};
-ghost use Rattle.agxx_base.specs.Calls.{no_calls, failing_at};
+ghost use Rattle.std.specs.Prelude.{◌≡◌, ◌≤◌, ◌<◌, ◌+◌, ◌-◌, OnOk, OnErr, IfOk, Some, take, length};
+ghost use Rattle.agxx_base.specs.Calls.{failing_at};
 ghost use Rattle.agxx_base.specs.Causes.{HasCause};
-ghost use Rattle.agxx_base.specs.MemSink.{WritesInMemory, accepted};
+ghost use Rattle.agxx_base.specs.MemSink.{WritesInMemory, accepted, empty_sink, sink_with};
 ghost use Rattle.agxx_base.specs.Pieces.{bytes_of};
 ghost use Rattle.agxx_base.specs.Sink.{Takes};
 
@@ -43,7 +43,7 @@ impl Model for MemSink {
 impl MemSink {
     /// An empty sink with room for so many bytes and no limit per call. Later writes take no memory.
     pub fn new(alloc: Global, room: usize) -> Result<MemSink, Memory>
-        ensures { IfOk result (λ sink. sink ≡ record { taken = []; room = room; limit = None; writes = no_calls; faults = 0 }) }
+        ensures { IfOk result (λ sink. sink ≡ empty_sink room) }
     {
         Ok(MemSink {
             buffer: vec![in alloc; 0u8; room]?,
@@ -87,7 +87,7 @@ impl MemSink {
     // Takes the first n of the bytes.
     fn append(&mut self, bytes: &[u8])
         requires { length bytes.now ≤ self.old.room }
-        ensures { self.new ≡ record self.old { taken = self.old.taken ++ bytes.now; room = self.old.room - length bytes.now } }
+        ensures { self.new ≡ sink_with self.old bytes.now }
     {
         let end = self.used + bytes.len();
         self.buffer[self.used..end].copy_from_slice(bytes);

@@ -1,6 +1,7 @@
 //! Numbers for names.
 
-ghost use Rattle.std.specs.Prelude.{◌≡◌, ◌≤◌, ◌<◌, ◌^◌, ◌∷◌, ◌++◌, [], false, length, slice_get, Some, is_some, IfSome, OnOk, OnErr, IfOk};
+ghost use Rattle.std.specs.Prelude.{◌≡◌, ◌≤◌, ◌<◌, ◌^◌, ◌∷◌, ◌++◌, [], false, length, slice_get};
+ghost use Rattle.std.specs.Prelude.{Some, is_some, IfSome, OnOk, OnErr, IfOk};
 ghost use Rattle.agxx_base.specs.Names.{IsDistinct, number_of, is_known, interned};
 
 use crate::{Memory, NameId};

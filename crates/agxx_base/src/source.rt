@@ -20,7 +20,8 @@ pub trait Files {
     /// A count of calls of `read`, which rises by at most one in each.
     ghost reads: { Self → ℕ };
 
-    /// Starts the file of this name. `Ok(false)` says that there is none; after it, and after `Failed`, nothing is left.
+    /// Starts the file of this name. `Ok(false)` says that there is none; after it, and after `Failed`, nothing is
+    /// left.
     fn start_file(&mut self, name: &Text) -> Result<bool, Failed>
         ensures starts { Starts (listed self.old) name.now (faults self.old) (faults self.new) (left self.new) result }
         ensures listed { listed self.new ≡ listed self.old }

@@ -1,8 +1,8 @@
 //! Whole files read, and whole lists of bytes written.
 
-ghost use Rattle.std.specs.Prelude.{◌≡◌, ◌≤◌, ◌<◌, ◌+◌, length, vec_len, [], IfOk, OnOk, IfSome, IsErrOf};
+ghost use Rattle.std.specs.Prelude.{◌≡◌, ◌≤◌, ◌+◌, length, vec_len, [], IfOk, OnOk, IfSome, IsErrOf};
 ghost use Rattle.agxx_base.specs.Causes.{Rose};
-ghost use Rattle.agxx_base.specs.Files.{ReadsWhole};
+ghost use Rattle.agxx_base.specs.Files.{IsLonger, ReadsWhole};
 ghost use Rattle.agxx_base.specs.Sink.{WritesWhole};
 
 use crate::{Failed, Files, Memory, Piece, Sink, Text};
@@ -44,7 +44,7 @@ fn read_rest<F: Files>(alloc: Global, files: &mut F, limit: u32) -> Result<Vec<u
     ensures later { F.faults files.old ≤ F.faults files.new }
     ensures within { IfOk result (λ bytes. vec_len bytes ≤ limit) }
     ensures whole { IfOk result (λ bytes. IfSome (F.listed files.old) (λ _. F.left files.old ≡ bytes.items)) }
-    ensures too_large { IsErrOf result ReadError.TooLarge → IfSome (F.listed files.old) (λ _. limit < length (F.left files.old)) }
+    ensures too_large { IsErrOf result ReadError.TooLarge → IsLonger (F.listed files.old) limit (F.left files.old) }
     ensures read_fault { IsErrOf result ReadError.ReadFault → Rose (F.faults files.old) (F.faults files.new) }
     ensures listed { F.listed files.new ≡ F.listed files.old }
     ensures end { OnOk result (IfSome (F.listed files.old) (λ _. F.left files.new ≡ [])) }
@@ -71,7 +71,8 @@ fn read_rest<F: Files>(alloc: Global, files: &mut F, limit: u32) -> Result<Vec<u
 
 /// Writes all bytes, in pieces, and goes on behind what the sink took of each. After `Failed` a prefix was written.
 pub fn write_whole<O: Sink>(sink: &mut O, bytes: &[u8]) -> Result<(), Failed>
-    ensures answer { WritesWhole (O.taken sink.old) (O.taken sink.new) bytes.now (O.faults sink.old) (O.faults sink.new) result }
+    ensures answer { WritesWhole (O.taken sink.old) (O.taken sink.new) bytes.now
+        (O.faults sink.old) (O.faults sink.new) result }
     ensures writes { O.writes sink.new ≤ O.writes sink.old + length bytes.now }
 {
     let mut piece = Piece::empty();

@@ -2,8 +2,6 @@ pub mod Texts
 pub mod Numbers
 pub mod Plans
 pub mod Kinds
-pub mod Refusals
 pub mod Rules
 pub mod Reading
 pub mod Steps
-pub mod Laws

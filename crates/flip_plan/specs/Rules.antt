@@ -1,5 +1,7 @@
 -- Which rules the lines of a plan violate, and where.
-use Rattle.std.specs.Prelude.{ℕ, ◌+◌, ◌-◌, ◌==◌, Bool, true, false, ◌||◌, nat_lt, if◌then◌else◌, List, [], ◌∷◌, ◌++◌, length, take, drop, Option, Some, None, is_none}
+use Rattle.std.specs.Prelude.{ℕ, ◌≡◌, ◌+◌, ◌-◌, ◌==◌, Bool, true, false, ◌||◌, nat_lt, if◌then◌else◌}
+use Rattle.std.specs.Prelude.{List, [], ◌∷◌, ◌++◌, length, take, drop, Option, Some, None, is_none}
+use Rattle.agxx_base.specs.Refusals.{least}
 use Rattle.agxx_base.specs.declared.fault.Refusal.{Refusal}
 use Rattle.agxx_base.specs.declared.rule.Rule.{Rule}
 use Rattle.agxx_base.specs.declared.rule.Rule.TheVariants as rule
@@ -173,3 +175,7 @@ violations_from file seen (line ∷ lines) = violations_in seen line ++ violatio
 -- all violations of a text
 abbrev pub violations_of_plan : ℕ → List ℕ → List Refusal
 violations_of_plan file text = violations_from file at_first (lines_of file text)
+
+-- a refusal is the first of them by line, by column and at one place by rule
+abbrev pub IsFirstViolation : ℕ → List ℕ → Refusal → Type 0
+IsFirstViolation file text refusal = least (violations_of_plan file text) ≡ Some refusal

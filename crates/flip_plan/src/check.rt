@@ -1,14 +1,13 @@
 //! The first violation of a text.
 
 ghost use Rattle.std.specs.Prelude.{◌≡◌, ◌≤◌, length, IfOk};
-ghost use Rattle.flip_plan.specs.Refusals.{least, least_from};
+ghost use Rattle.agxx_base.specs.Refusals.{least, least_from};
 ghost use Rattle.flip_plan.specs.Rules as spec;
 
 use crate::lines::Lines;
-use crate::refusals::nearer;
 use crate::rules::{after, check_line};
 use crate::seen::Seen;
-use agxx_base::{Memory, Place, Refusal, Rule};
+use agxx_base::{LARGEST_TEXT, Memory, Place, Refusal, Rule, nearer};
 use std::alloc::Global;
 
 fn at_first() -> Seen
@@ -46,13 +45,13 @@ fn unlimited(found: Option<Refusal>, file: u32, seen: Seen) -> Option<Refusal>
 }
 
 /// The first violation of a text, if there is one.
-#[tactic(auto, using(crate::proofs::Leasts::least_append))]
+#[tactic(auto, using(agxx_base::proofs::Leasts::least_append))]
 pub(crate) fn first_violation(
     alloc: Global,
     text: &[u8],
     file: u32,
 ) -> Result<Option<Refusal>, Memory>
-    requires { length text.now ≤ 16777216 }
+    requires { length text.now ≤ LARGEST_TEXT }
     ensures { IfOk result (λ found. found ≡ least (spec.violations_of_plan file text.now)) }
 {
     let mut found = None;

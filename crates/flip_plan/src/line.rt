@@ -5,7 +5,7 @@ ghost use Rattle.flip_plan.specs.Kinds as kinds;
 ghost use Rattle.flip_plan.specs.Texts as spec;
 
 use crate::pieces::{Pieces, Separator};
-use agxx_base::{ListOf, Memory};
+use agxx_base::{LARGEST_TEXT, ListOf, Memory};
 use std::alloc::Global;
 use std::marker::Model;
 
@@ -105,7 +105,7 @@ fn is_comment(text: &[u8]) -> bool
 
 /// The words of a line.
 fn words_of<'t>(alloc: Global, text: &'t [u8]) -> Result<ListOf<Word<'t>>, Memory>
-    requires { length text.now ≤ 16777216 }
+    requires { length text.now ≤ LARGEST_TEXT }
     ensures { IfOk result (λ words. words ≡ spec.words_of text.now) }
 {
     let mut words = ListOf::new(alloc);
@@ -131,7 +131,7 @@ impl<'t> Line<'t> {
         number: u32,
         text: &'t [u8],
     ) -> Result<Line<'t>, Memory>
-        requires { length text.now ≤ 16777216 }
+        requires { length text.now ≤ LARGEST_TEXT }
         ensures { IfOk result (λ line. line ≡ spec.line_at file number text.now) }
     {
         let end = text.len() as u32 + 1;

@@ -5,7 +5,7 @@ ghost use Rattle.flip_plan.specs.Texts.{lines_of};
 
 use crate::line::Line;
 use crate::pieces::{Pieces, Separator};
-use agxx_base::Memory;
+use agxx_base::{LARGEST_TEXT, Memory};
 use std::alloc::Global;
 use std::marker::Model;
 
@@ -20,19 +20,20 @@ pub(crate) struct Lines<'t> {
 
 impl<'t> Model for Lines<'t> {
     ghost use Rattle.std.specs.Prelude.{List, ◌+◌, ◌≤◌};
+    ghost use Rattle.agxx_base.specs.Sizes.{largest_text};
     ghost use Rattle.flip_plan.specs.Texts.{Line, lines_from, span};
 
     ghost Value = { List Line };
 
     ghost view = { λ l. lines_from l.file l.number l.pieces };
 
-    ghost invariant = { λ l. (1 ≤ l.number) × (l.number + span l.pieces ≤ 16777218) };
+    ghost invariant = { λ l. (1 ≤ l.number) × (l.number + span l.pieces ≤ largest_text + 2) };
 }
 
 impl<'t> Lines<'t> {
     /// All lines of a text.
     pub(crate) fn new(text: &'t [u8], file: u32) -> Lines<'t>
-        requires { length text.now ≤ 16777216 }
+        requires { length text.now ≤ LARGEST_TEXT }
         ensures { result ≡ lines_of file text.now }
     {
         Lines {
@@ -44,7 +45,8 @@ impl<'t> Lines<'t> {
 
     /// Takes the next line.
     pub(crate) fn next(&mut self, alloc: Global) -> Result<Option<Line<'t>>, Memory>
-        ensures { IfOk result (λ next. MatchOption next ((self.old ≡ []) × (self.new ≡ [])) (λ line. self.old ≡ line ∷ self.new)) }
+        ensures { IfOk result (λ next. MatchOption next ((self.old ≡ []) × (self.new ≡ []))
+            (λ line. self.old ≡ line ∷ self.new)) }
     {
         let Some(text) = self.pieces.next() else {
             return Ok(None);

@@ -91,7 +91,8 @@ impl Plan {
         self.limit
     }
 
-    /// The thread whose turn it is. Turns count from 0. It takes no memory, and time logarithmic in the number of items.
+    /// The thread whose turn it is. Turns count from 0. It takes no memory, and time logarithmic in the number of
+    /// items.
     pub fn turn(&self, index: u64) -> u32
         ensures { result ≡ turn_of self.now index }
     {

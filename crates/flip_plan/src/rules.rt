@@ -1,16 +1,15 @@
 //! Which rules a line violates, and where.
 
 ghost use Rattle.std.specs.Prelude.{◌≡◌, ◌≤◌, length, take, drop};
+ghost use Rattle.agxx_base.specs.Refusals.{least_from};
 ghost use Rattle.flip_plan.specs.Kinds.{first_column, behind};
 ghost use Rattle.flip_plan.specs.Numbers as numbers;
-ghost use Rattle.flip_plan.specs.Refusals.{least_from};
 ghost use Rattle.flip_plan.specs.Rules as spec;
 
 use crate::line::{Line, LineKind, Word};
 use crate::numbers::{Item, read_item, read_number};
-use crate::refusals::nearer;
 use crate::seen::Seen;
-use agxx_base::{Place, Refusal, Rule};
+use agxx_base::{Place, Refusal, Rule, nearer};
 
 fn refusal(rule: Rule, line: &Line, column: u32) -> Refusal
     ensures { result ≡ spec.refusal rule line.now column }
@@ -237,7 +236,7 @@ fn large_item(found: Option<Refusal>, line: &Line, room: u32, word: &Word) -> Op
     least
 }
 
-#[tactic(auto, using(crate::proofs::Leasts::least_append))]
+#[tactic(auto, using(agxx_base::proofs::Leasts::least_append))]
 fn large_items(found: Option<Refusal>, line: &Line, room: u32, words: &[Word]) -> Option<Refusal>
     ensures { result ≡ least_from found (spec.large_items line.now room words.now) }
 {
@@ -296,7 +295,7 @@ fn repeated(found: Option<Refusal>, seen: Seen, line: &Line) -> Option<Refusal>
 }
 
 /// The first of the violation that is found and those of a line.
-#[tactic(auto, using(crate::proofs::Leasts::least_append), unfolding(crate::specs::Rules::violations_in))]
+#[tactic(auto, using(agxx_base::proofs::Leasts::least_append), unfolding(crate::specs::Rules::violations_in))]
 pub(crate) fn check_line(found: Option<Refusal>, seen: Seen, line: &Line) -> Option<Refusal>
     ensures { result ≡ least_from found (spec.violations_in seen line.now) }
 {

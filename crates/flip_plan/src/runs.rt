@@ -38,7 +38,8 @@ impl Model for Runs {
 /// How many runs end up to this turn. Their ends rise.
 fn ended_by(steps: &[Step], index: u64) -> usize
     requires { IsNonDecreasingBy (λ step. step.end) steps.now }
-    ensures { IsPartitionPoint (λ step. nat_le step.end index ≡ true) (λ step. nat_le step.end index ≡ false) steps.now result }
+    ensures { IsPartitionPoint (λ step. nat_le step.end index ≡ true)
+        (λ step. nat_le step.end index ≡ false) steps.now result }
 {
     steps.partition_point(|step| step.end <= index)
 }

@@ -1,13 +1,13 @@
 //! Plans whose meanings and refusals were worked out by hand.
 
 use crate::{Plan, default_plan, read_plan};
-use agxx_base::{Fault, Text};
+use agxx_base::{Fault, LARGEST_TEXT, Text};
 use std::alloc::Global;
 use std::test::Fail;
 
 fn read(alloc: Global, text: &[u8]) -> Result<Result<Plan, Fault>, Fail> {
     let bytes = Text::from_bytes(alloc, text).or(Err("no memory"))?;
-    if bytes.bytes().len() > 16777216 {
+    if bytes.bytes().len() > LARGEST_TEXT as usize {
         return Err("too long")?;
     }
     Ok(read_plan(alloc, &bytes, 0))

@@ -1,5 +1,5 @@
 use Rattle.std.proofs.Common.{◌≡◌, length}
-use Rattle.flip_plan.specs.Refusals.{least, least_from}
+use Rattle.agxx_base.specs.Refusals.{least, least_from}
 use Rattle.flip_plan.specs.Rules.{violations_from, violations_of_plan}
 use Rattle.flip_plan.proofs.check.first_violation.Given as goal
 

@@ -1,5 +1,5 @@
 use Rattle.std.proofs.Common.{◌≡◌, drop}
-use Rattle.flip_plan.specs.Refusals.{least_from}
+use Rattle.agxx_base.specs.Refusals.{least_from}
 use Rattle.flip_plan.specs.Rules.{at_each}
 use Rattle.flip_plan.proofs.rules.at_each.Given as goal
 

@@ -1,5 +1,5 @@
 use Rattle.std.proofs.Common.{◌≡◌, drop}
-use Rattle.flip_plan.specs.Refusals.{least_from}
+use Rattle.agxx_base.specs.Refusals.{least_from}
 use Rattle.flip_plan.specs.Rules.{malformed_in}
 use Rattle.flip_plan.proofs.rules.malformed_in.Given as goal
 
