@@ -1,6 +1,7 @@
 -- What the words of a command line mean.
 use Rattle.std.specs.Prelude.{◌≡◌, ◌≢◌, ◌≤◌, ◌<◌, ◌-◌, ℕ, ⊤, List, [], ◌∷◌, Some, drop, length, slice_get, codes}
 use Rattle.std.specs.Str.{IsUtf8}
+use Rattle.agxx_base.specs.Sizes.{largest_text, largest_source}
 use Rattle.agxx_calls.specs.declared.command.Call.{Call}
 use Rattle.agxx_calls.specs.declared.command.Command.{Command}
 use Rattle.agxx_calls.specs.declared.command.Command.TheVariants as command
@@ -36,9 +37,9 @@ IsNameOf kind.Plan word = IsPlanName word
 
 -- the most bytes of such a file
 abbrev pub limit_of : Kind → ℕ
-limit_of kind.Woven = 16777216
-limit_of kind.Source = 4194304
-limit_of kind.Plan = 16777216
+limit_of kind.Woven = largest_text
+limit_of kind.Source = largest_source
+limit_of kind.Plan = largest_text
 
 -- ---- the rows: each command has its word and the kinds of its files, in the order of the words
 

@@ -3,7 +3,7 @@
 ghost use Rattle.std.specs.Prelude.{◌≡◌};
 ghost use Rattle.agxx_calls.specs.Commands as spec;
 
-use agxx_base::{ListOf, Text};
+use agxx_base::{LARGEST_SOURCE, LARGEST_TEXT, ListOf, Text};
 
 /// What a file is read as.
 #[derive(Clone, Copy, Debug, Drop)]
@@ -47,8 +47,8 @@ impl Kind {
         ensures { result ≡ spec.limit_of self }
     {
         match self {
-            Kind::Woven | Kind::Plan => 16_777_216,
-            Kind::Source => 4_194_304,
+            Kind::Woven | Kind::Plan => LARGEST_TEXT,
+            Kind::Source => LARGEST_SOURCE,
         }
     }
 }

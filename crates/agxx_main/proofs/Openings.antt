@@ -2,10 +2,10 @@
 use Rattle.std.proofs.Common.{◌≡◌, ◌≤◌, ℕ, List, [], ◌∷◌, ◌++◌, Option, sym, subst, arith, append-nil, append_assoc}
 use Rattle.agxx_base.specs.Files.{Listing}
 use Rattle.agxx_main.specs.declared.answer.Answer.{Answer}
-use Rattle.agxx_main.specs.declared.command.Call.{Call}
-use Rattle.agxx_main.specs.declared.command.File.{File}
+use Rattle.agxx_calls.specs.declared.command.Call.{Call}
+use Rattle.agxx_calls.specs.declared.command.File.{File}
 use Rattle.agxx_main.specs.declared.files.Opened.TheVariants as result
-use Rattle.agxx_main.specs.Commands.{limit_of}
+use Rattle.agxx_calls.specs.Commands.{limit_of}
 use Rattle.agxx_main.specs.Answers.{IsCallAnswer, closed, opened}
 use Rattle.agxx_main.specs.Outcome.{Opening, OpensInTurn}
 use Rattle.agxx_main.proofs.Opens.{map-in-turn}

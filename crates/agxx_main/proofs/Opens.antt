@@ -9,11 +9,11 @@ use Rattle.agxx_base.specs.declared.fault.Refusal.{Refusal}
 use Rattle.agxx_base.specs.declared.rule.Rule.TheVariants.{S1}
 use Rattle.flip_plan.specs.Plans.{PlanMeaning}
 use Rattle.flip_plan.specs.Reading.{plan_of}
-use Rattle.flip_plan.specs.Refusals.{least}
+use Rattle.agxx_base.specs.Refusals.{least}
 use Rattle.flip_plan.specs.Rules.{violations_of_plan}
 use Rattle.agxx_main.specs.declared.answer.Answer.{Answer}
-use Rattle.agxx_main.specs.declared.command.File.{File}
-use Rattle.agxx_main.specs.Commands.{limit_of}
+use Rattle.agxx_calls.specs.declared.command.File.{File}
+use Rattle.agxx_calls.specs.Commands.{limit_of}
 use Rattle.agxx_main.specs.Answers.{refused, unreadable, at_beginning, IsClosed, Opens, closed, opened, OpensAll, Plans, refused_plan, accepted_plan}
 use Rattle.agxx_main.specs.Outcome.{Gives, told, untold, failed, OpensInTurn}
 use Rattle.agxx_main.specs.Laws.{IsAlike, same}

@@ -17,14 +17,14 @@ use Rattle.cxx_normal.specs.Normal.{with_main, normal_among}
 use Rattle.cxx_types.specs.Violations.{refusal_of}
 use Rattle.flip_plan.specs.Plans.{PlanMeaning, default_plan}
 use Rattle.flip_plan.specs.Reading.{plan_of}
-use Rattle.flip_plan.specs.Refusals.{least}
+use Rattle.agxx_base.specs.Refusals.{least}
 use Rattle.flip_plan.specs.Rules.{violations_of_plan}
 use Rattle.agxx_main.specs.declared.answer.Answer.{Answer}
-use Rattle.agxx_main.specs.declared.command.Call.{Call}
-use Rattle.agxx_main.specs.declared.command.Command.{Command}
-use Rattle.agxx_main.specs.declared.command.Command.TheVariants as command
-use Rattle.agxx_main.specs.declared.command.File.{File}
-use Rattle.agxx_main.specs.Commands.{limit_of, Means, IsUsage}
+use Rattle.agxx_calls.specs.declared.command.Call.{Call}
+use Rattle.agxx_calls.specs.declared.command.Command.{Command}
+use Rattle.agxx_calls.specs.declared.command.Command.TheVariants as command
+use Rattle.agxx_calls.specs.declared.command.File.{File}
+use Rattle.agxx_calls.specs.Commands.{limit_of, Means, IsUsage}
 use Rattle.agxx_main.specs.Lines.{usage_line, unreadable_line, refusal_line}
 use Rattle.agxx_main.specs.RunAnswers.{woven_answer, source_answer}
 

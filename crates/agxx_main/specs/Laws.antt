@@ -6,8 +6,8 @@ use Rattle.agxx_base.specs.declared.rule.Rule.{Rule}
 use Rattle.agxx_base.specs.declared.rule.Rule.TheVariants.{G1, G2}
 use Rattle.agxx_base.specs.Files.{Listing}
 use Rattle.agxx_main.specs.declared.answer.Answer.{Answer}
-use Rattle.agxx_main.specs.declared.command.Call.{Call}
-use Rattle.agxx_main.specs.Commands.{Means, IsUsage}
+use Rattle.agxx_calls.specs.declared.command.Call.{Call}
+use Rattle.agxx_calls.specs.Commands.{Means, IsUsage}
 use Rattle.agxx_main.specs.Answers.{refused, IsAnswer}
 use Rattle.agxx_main.specs.Outcome.{IsDue}
 

@@ -8,9 +8,9 @@ use Rattle.agxx_base.specs.declared.status.Status.TheVariants.{WriteFault, Memor
 use Rattle.agxx_main.specs.declared.answer.Answer.{Answer}
 use Rattle.agxx_main.specs.declared.files.Opened.{Opened}
 use Rattle.agxx_main.specs.declared.files.Opened.TheVariants as opened
-use Rattle.agxx_main.specs.declared.command.Call.{Call}
-use Rattle.agxx_main.specs.declared.command.File.{File}
-use Rattle.agxx_main.specs.Commands.{limit_of, Means, IsUsage}
+use Rattle.agxx_calls.specs.declared.command.Call.{Call}
+use Rattle.agxx_calls.specs.declared.command.File.{File}
+use Rattle.agxx_calls.specs.Commands.{limit_of, Means, IsUsage}
 use Rattle.agxx_main.specs.Answers.{usage, IsClosed, Opens, IsCallAnswer}
 
 -- What reading a file may give while the count of faults goes from one number to another: what the list says that is told;

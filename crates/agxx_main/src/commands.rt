@@ -4,23 +4,23 @@ ghost use Rattle.std.specs.Prelude.{◌≡◌, ◌≤◌, ◌+◌, ◌++◌, len
 ghost use Rattle.std.specs.List.{All};
 ghost use Rattle.agxx_base.specs.declared.kind.Mode.TheVariants as mode;
 ghost use Rattle.flip_plan.specs.Plans as spec;
-ghost use Rattle.agxx_main.specs.Commands.{kinds_of};
+ghost use Rattle.agxx_calls.specs.Commands.{kinds_of};
 ghost use Rattle.agxx_main.specs.Answers.{IsTextAnswer, Plans, IsCallAnswer};
 ghost use Rattle.agxx_main.specs.RunAnswers.{woven_answer, source_answer};
 ghost use Rattle.agxx_main.specs.Outcome.{OpensInTurn};
 
 use crate::answer::Answer;
-use crate::command::{Call, Command, File};
 use crate::files::{Opened, open};
 use crate::program::answer_text;
 use crate::way::Way;
-use agxx_base::{Fault, Files, ListOf, Memory, Text};
+use agxx_base::{Fault, Files, LARGEST_TEXT, ListOf, Memory, Text};
+use agxx_calls::{Call, Command, File};
 use flip_plan::{default_plan, read_plan};
 use std::alloc::Global;
 
 /// The answer of `exec` without a plan.
 fn exec(alloc: Global, file: &Text, text: &Text) -> Result<Answer, Memory>
-    requires { length text.now ≤ 16777216 }
+    requires { length text.now ≤ LARGEST_TEXT }
     ensures {
         IfOk result (λ answer.
             IsTextAnswer mode.Woven (woven_answer spec.default_plan) file.now text.now answer)
@@ -38,8 +38,8 @@ fn exec_plan(
     plan_file: &Text,
     plan_text: &Text,
 ) -> Result<Answer, Memory>
-    requires program { length text.now ≤ 16777216 }
-    requires plan { length plan_text.now ≤ 16777216 }
+    requires program { length text.now ≤ LARGEST_TEXT }
+    requires plan { length plan_text.now ≤ LARGEST_TEXT }
     ensures {
         IfOk result (λ answer. Plans plan_file.now plan_text.now
             (λ plan. IsTextAnswer mode.Woven (woven_answer plan) file.now text.now) answer)
@@ -60,8 +60,8 @@ fn source(
     plan_file: &Text,
     plan_text: &Text,
 ) -> Result<Answer, Memory>
-    requires program { length text.now ≤ 16777216 }
-    requires plan { length plan_text.now ≤ 16777216 }
+    requires program { length text.now ≤ LARGEST_TEXT }
+    requires plan { length plan_text.now ≤ LARGEST_TEXT }
     ensures {
         IfOk result (λ answer. Plans plan_file.now plan_text.now
             (λ plan. IsTextAnswer mode.Source (source_answer plan) file.now text.now) answer)
@@ -78,7 +78,7 @@ fn source(
 fn answer_texts(alloc: Global, call: &Call, texts: &ListOf<Text>) -> Result<Answer, Memory>
     requires files { length call.now.files ≡ length (kinds_of call.now.command) }
     requires texts { length texts.now ≡ length (kinds_of call.now.command) }
-    requires within { All (λ text. length text ≤ 16777216) texts.now }
+    requires within { All (λ text. length text ≤ LARGEST_TEXT) texts.now }
     ensures { IfOk result (IsCallAnswer call.now texts.now) }
 {
     let files = &call.files;
@@ -105,7 +105,7 @@ fn answer_files<F: Files>(
 ) -> Result<Answer, Memory>
     requires files { length call.now.files ≡ length (kinds_of call.now.command) }
     requires texts { length texts + length left.now ≡ length (kinds_of call.now.command) }
-    requires within { All (λ text. length text ≤ 16777216) texts }
+    requires within { All (λ text. length text ≤ LARGEST_TEXT) texts }
     ensures due {
         IfOk result (OpensInTurn (F.listed files.old) (F.faults files.old) (F.faults files.new)
             left.now (λ rest. IsCallAnswer call.now (texts ++ rest)))

@@ -5,7 +5,6 @@
 
 mod answer;
 mod buffer;
-mod command;
 mod commands;
 mod files;
 mod line;
@@ -16,7 +15,6 @@ mod summary;
 mod tests;
 mod top;
 mod way;
-mod words;
 
 use agxx_base::{DiskFiles, Memory, Status, StdSink, Text, Words};
 use std::process::ExitCode;

@@ -11,7 +11,7 @@ ghost use Rattle.agxx_main.specs.RunAnswers.{mode_of, way_answer};
 use crate::answer::Answer;
 use crate::run::run;
 use crate::way::Way;
-use agxx_base::{Fault, Memory, Names, Text};
+use agxx_base::{Fault, LARGEST_TEXT, Memory, Names, Text};
 use cxx_lex::{Toks, lex_all};
 use cxx_normal::normal;
 use cxx_parse::parse_program;
@@ -76,7 +76,7 @@ pub(crate) fn answer_text(
     file: &Text,
     text: &Text,
 ) -> Result<Answer, Memory>
-    requires { length text.now ≤ 16777216 }
+    requires { length text.now ≤ LARGEST_TEXT }
     ensures { IfOk result (λ answer. IsTextAnswer (mode_of way.now) (way_answer way.now) file.now text.now answer) }
 {
     match lex_all(alloc, text.bytes(), 0, way.mode()) {

@@ -7,7 +7,7 @@ ghost use Rattle.agxx_main.specs.Laws.{HasOneAnswer, UsageHasAnswer, CommandHasA
 
 use crate::answer::Answer;
 use crate::commands::answer_call;
-use crate::words::read_call;
+use agxx_calls::read_call;
 use agxx_base::{Files, Memory, Sink, Status, Words, write_whole};
 use std::alloc::Global;
 

@@ -1,6 +1,6 @@
 use Rattle.std.proofs.Common.{ap, subst}
 use Rattle.agxx_base.specs.declared.kind.Mode.TheVariants as mode
-use Rattle.flip_plan.specs.Refusals.{least}
+use Rattle.agxx_base.specs.Refusals.{least}
 use Rattle.agxx_main.specs.Answers.{IsTextAnswer, refused_plan, accepted_plan}
 use Rattle.agxx_main.specs.RunAnswers.{woven_answer}
 use Rattle.agxx_main.proofs.Texts.{if-ok}
