@@ -95,7 +95,8 @@ fn answer_texts(alloc: Global, call: &Call, texts: &ListOf<Text>) -> Result<Answ
     }
 }
 
-/// Reads the files of a call that are left in order, and answers for the first that can't be opened, or else for the texts of all.
+/// Reads the files of a call that are left, in order. Answers for the first that can't be opened, or else for the texts
+/// of all files.
 fn answer_files<F: Files>(
     alloc: Global,
     call: &Call,
@@ -127,7 +128,8 @@ fn answer_files<F: Files>(
     }
 }
 
-/// Does what a call asks for: reads its files in order, and answers for the first that can't be opened, or else for their texts.
+/// Does what a call asks for: reads its files in order, and answers for the first that can't be opened, or else for the
+/// texts of all files.
 pub(crate) fn answer_call<F: Files>(
     alloc: Global,
     call: &Call,

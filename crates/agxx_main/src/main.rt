@@ -11,8 +11,6 @@ mod line;
 mod program;
 mod run;
 mod summary;
-#[cfg(test)]
-mod tests;
 mod top;
 mod way;
 

@@ -38,8 +38,8 @@ fn deliver<O: Sink, E: Sink>(answer: Result<Answer, Memory>, out: &mut O, diag: 
     answer.status
 }
 
-/// Does what the words of a command line ask for, the program's name left out: reads from `files`, writes the output to
-/// `out` and diagnostics to `diag`, and answers the status.
+/// Does what the words of a command line ask for, the program's name left out: reads from `files`, writes the output
+/// to `out` and diagnostics to `diag`, and answers the status.
 pub fn agxx<F: Files, O: Sink, E: Sink>(
     alloc: Global,
     words: &Words,
@@ -67,9 +67,9 @@ pub fn agxx<F: Files, O: Sink, E: Sink>(
     deliver(answer, out, diag)
 }
 
-/// There is an answer for all words and files, and one alone, but for whether and where a file that is no program within the
-/// limits is told to be too deep. It is what `agxx` answers where files are told and no read or write fails. The function
-/// does nothing: it carries the laws.
+/// There is an answer for all words and files, and one alone, but for whether and where a file that is no program
+/// within the limits is told to be too deep. It is what `agxx` answers where files are told and no read or write fails.
+/// The function does nothing: it carries the laws.
 pub fn answers_are_determined()
     ensures one { HasOneAnswer }
     ensures usage { UsageHasAnswer }
