@@ -1,6 +1,7 @@
 -- What follows from what words mean.
-use Rattle.std.proofs.Common.{◌≡◌, ◌↔◌, ℕ, suc, ◌-◌, ◌<◌, Bool, true, false, List, [], ◌∷◌, length, take, drop, slice_index_or, Option, Some, None, IsTrue, MatchOption, refl, sym, ap, ◌∙◌, subst, arith}
+use Rattle.std.proofs.Common.{◌≡◌, ◌↔◌, ℕ, suc, ◌-◌, ◌<◌, Bool, true, false, List, [], ◌∷◌, length, take, drop, slice_index_or, Option, Some, None, find, ◌&&◌, ◌==◌, IsTrue, MatchOption, refl, sym, ap, ◌∙◌, subst, arith}
 use Rattle.std.proofs.Math.Seq.{take-length}
+use Rattle.std.specs.Str.{bytes_eq}
 use Rattle.agxx_calls.specs.declared.command.Call.{Call}
 use Rattle.agxx_calls.specs.declared.command.Command.{Command}
 use Rattle.agxx_calls.specs.declared.command.Command.TheVariants as command
@@ -27,17 +28,21 @@ names-counted [] (word ∷ words) n = absurd n
 names-counted (kind ∷ kinds) [] n = absurd n
 names-counted (kind ∷ kinds) (word ∷ words) n = ap suc (names-counted kinds words n.1)
 
--- no two commands have the same word and as many files
+-- each command is found by its word and how many files it has, so no two have both alike
+abbrev commands : List Command
+commands = command.Exec ∷ command.ExecPlan ∷ command.Source ∷ []
+
+abbrev found : List ℕ → ℕ → Option Command
+found word n = find (λ c. bytes_eq (word_of c) word && (length (kinds_of c) == n)) commands
+
+row-found : (c : Command) → found (word_of c) (length (kinds_of c)) ≡ Some c
+row-found command.Exec = refl
+row-found command.ExecPlan = refl
+row-found command.Source = refl
+
 same-command : (a b : Command) → word_of a ≡ word_of b → length (kinds_of a) ≡ length (kinds_of b) → a ≡ b
-same-command command.Exec command.Exec w l = refl
-same-command command.Exec command.ExecPlan w l = cc
-same-command command.Exec command.Source w l = cc
-same-command command.ExecPlan command.Exec w l = cc
-same-command command.ExecPlan command.ExecPlan w l = refl
-same-command command.ExecPlan command.Source w l = cc
-same-command command.Source command.Exec w l = cc
-same-command command.Source command.ExecPlan w l = cc
-same-command command.Source command.Source w l = refl
+same-command a b w l =
+    let e : ◌≡◌ {A = Option Command} (Some a) (Some b) = sym (row-found a) ∙ (ap (λ x. found x (length (kinds_of a))) w ∙ (ap (found (word_of b)) l ∙ row-found b)) in cc
 
 pub one-call : (words : List (List ℕ)) (a b : Call) → Means words a → Means words b → (a.command ≡ b.command) × (a.files ≡ b.files)
 one-call [] a b m n = absurd m
