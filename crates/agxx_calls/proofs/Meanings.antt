@@ -1,12 +1,12 @@
 -- What follows from what words mean.
-use Rattle.std.proofs.Common.{◌≡◌, ◌↔◌, ℕ, suc, ◌-◌, ◌<◌, Bool, true, false, List, [], ◌∷◌, length, take, drop, slice_index_or, Option, Some, None, find, ◌&&◌, ◌==◌, IsTrue, MatchOption, refl, sym, ap, ◌∙◌, subst, arith}
+use Rattle.std.proofs.Common.{◌≡◌, ◌↔◌, ℕ, suc, ◌-◌, ◌<◌, Bool, true, false, List, [], ◌∷◌, length, take, drop, slice_index_or, Option, Some, None, Result, Ok, Err, find, ◌&&◌, ◌==◌, IsTrue, OnErr, MatchOption, refl, sym, ap, ◌∙◌, subst, arith}
 use Rattle.std.proofs.Math.Seq.{take-length}
 use Rattle.std.specs.Str.{bytes_eq}
 use Rattle.agxx_calls.specs.declared.command.Call.{Call}
 use Rattle.agxx_calls.specs.declared.command.Command.{Command}
 use Rattle.agxx_calls.specs.declared.command.Command.TheVariants as command
 use Rattle.agxx_calls.specs.declared.command.Kind.{Kind}
-use Rattle.agxx_calls.specs.Commands.{word_of, kinds_of, AreNames, files_of, IsMeant, IsNone, Means, IsUsage}
+use Rattle.agxx_calls.specs.Commands.{word_of, kinds_of, AreNames, files_of, IsMeant, IsNone, Means, HasCall, IsUsage}
 
 -- ---- a call has as many files as its command
 
@@ -52,7 +52,7 @@ one-call (word ∷ names) a b m n =
 
 -- ---- words of which no command is meant
 
-pub none-usage : (word : List ℕ) (names : List (List ℕ)) → IsNone (command.Exec ∷ command.ExecPlan ∷ command.Source ∷ []) word names → IsUsage (word ∷ names)
+pub none-usage : (word : List ℕ) (names : List (List ℕ)) → IsNone commands word names → IsUsage (word ∷ names)
 none-usage word names n call m = not-meant call.command m.0
   where
     not-meant : (c : Command) → IsMeant c word names → ⊥
@@ -72,3 +72,17 @@ later-none (c ∷ cs) first word names b None l m e h =
     let rest : take (length (c ∷ cs) - 1) cs ≡ cs = ap (λ k. take k cs) len ∙ take-length cs in
     ((λ x. let t : false ≡ true = subst (λ z. z ≡ true) e (m.1 x) in cc), subst (λ z. IsNone z word names) rest h)
 later-none (c ∷ cs) first word names b (Some x) l m e h = h
+
+-- words whose first is the command's, and the others names of its files
+has-call : (words : List (List ℕ)) (command : Command) → 0 < length words → (word item : List ℕ) → word ≡ slice_index_or words 0 item → IsMeant command word (take (length words - 1) (drop 1 words)) → HasCall words
+has-call [] command l word item e m = absurd (omega arith)
+has-call (w ∷ ws) command l word item e m =
+    let len : length (w ∷ ws) - 1 ≡ length ws = omega arith in
+    let rest : take (length (w ∷ ws) - 1) ws ≡ ws = ap (λ k. take k ws) len ∙ take-length ws in
+    let meant : IsMeant command w ws = subst (λ z. IsMeant command w z) rest (subst (λ z. IsMeant command z (take (length (w ∷ ws) - 1) ws)) e m) in
+    (record { command = command; files = files_of (kinds_of command) ws }, (meant, refl))
+
+pub call-meant : {T E : Type 0} (r : Result T E) (words shown : List (List ℕ)) (command : Command) → shown ≡ words → 0 < length shown → (word item : List ℕ) → word ≡ slice_index_or shown 0 item
+    → IsMeant command word (take (length shown - 1) (drop 1 shown)) → OnErr r (HasCall words)
+call-meant (Ok x) words shown command i l word item e m = tt
+call-meant (Err x) words shown command i l word item e m = subst HasCall i (has-call shown command l word item e m)

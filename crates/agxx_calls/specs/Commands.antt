@@ -82,6 +82,10 @@ abbrev pub Means : List (List ℕ) → Call → Type 0
 Means [] call = ⊥
 Means (word ∷ names) call = IsMeant call.command word names × (call.files ≡ files_of (kinds_of call.command) names)
 
+-- some command
+abbrev pub HasCall : List (List ℕ) → Type 0
+HasCall words = (call : Call) × Means words call
+
 -- no command
 abbrev pub IsUsage : List (List ℕ) → Type 0
 IsUsage words = (call : Call) → Means words call → ⊥

@@ -1,8 +1,8 @@
 //! What the words of a command line mean.
 
-ghost use Rattle.std.specs.Prelude.{◌≡◌, ◌≢◌, ◌↔◌, ◌++◌, Some, slice_get, IsTrue, IfOk, MatchOption};
+ghost use Rattle.std.specs.Prelude.{◌≡◌, ◌≢◌, ◌↔◌, ◌++◌, Some, slice_get, IsTrue, IfOk, OnErr, MatchOption};
 ghost use Rattle.agxx_calls.specs.Commands.{IsName, IsProgramName, IsPlanName, IsNameOf, AreNames};
-ghost use Rattle.agxx_calls.specs.Commands.{files_of, IsMeant, IsNone, Means, IsUsage};
+ghost use Rattle.agxx_calls.specs.Commands.{files_of, IsMeant, IsNone, Means, HasCall, IsUsage};
 
 use crate::command::{COMMANDS, Call, Command, File, Kind};
 use agxx_base::{ListOf, Memory, Text, Words};
@@ -109,9 +109,10 @@ fn add_files(
     }
 }
 
-/// The command that words are, with its files, or none.
+/// The command that words are, with its files, or none. Only where they are one is memory asked for.
 pub fn read_call(alloc: Global, words: &Words) -> Result<Option<Call>, Memory>
-    ensures { IfOk result (λ call. MatchOption call (IsUsage words.now) (Means words.now)) }
+    ensures call { IfOk result (λ call. MatchOption call (IsUsage words.now) (Means words.now)) }
+    ensures memory { OnErr result (HasCall words.now) }
 {
     let [word, names @ ..] = words.as_slice() else {
         return Ok(None);

@@ -10,7 +10,7 @@ use Rattle.agxx_calls.specs.declared.command.Call.{Call}
 use Rattle.agxx_calls.specs.declared.command.Command.{Command}
 use Rattle.agxx_calls.specs.declared.command.Command.TheVariants as command_of
 use Rattle.agxx_calls.specs.declared.command.File.{File}
-use Rattle.agxx_calls.specs.Commands.{IsUsage, Means}
+use Rattle.agxx_calls.specs.Commands.{IsUsage, Means, HasCall}
 use Rattle.agxx_calls.proofs.Meanings.{one-call}
 use Rattle.cxx_lex.proofs.Readings.{always_one}
 use Rattle.flip_plan.specs.Plans.{default_plan}
@@ -18,7 +18,7 @@ use Rattle.agxx_main.specs.declared.answer.Answer.{Answer}
 use Rattle.agxx_main.specs.RunAnswers.{woven_answer, source_answer}
 use Rattle.agxx_main.specs.Answers.{usage, name_at, text_at, OpensAll, IsTextAnswer, IsAnswerOf, IsCallAnswer, no_command, command}
 use Rattle.agxx_main.specs.Outcome as due
-use Rattle.agxx_main.specs.Outcome.{OpensInTurn, IsDue, GetsPrefix, Gets, no_memory, GivesUp, Ends}
+use Rattle.agxx_main.specs.Outcome.{OpensInTurn, IsDue, HasDue, GetsPrefix, Gets, no_memory, GivesUp, Ends}
 use Rattle.agxx_main.specs.Laws.{IsAlike, same, HasOneAnswer, UsageHasAnswer, CommandHasAnswer, DueIsAnswer}
 use Rattle.agxx_main.proofs.Texts.{has-text, one-text}
 use Rattle.agxx_main.proofs.Opens.{some-plans, one-plans, some-opens-all, one-opens-all, some-in-turn, in-turn-told}
@@ -45,8 +45,20 @@ one-of command_of.Source files texts a b =
 
 -- ---- one that is due
 
-pub some-due : (listed : Option Listing) (before now : ℕ) (call : Call) → before ≤ now → (a : Answer) × OpensInTurn listed before now call.files (IsCallAnswer call) a
+some-due : (listed : Option Listing) (before now : ℕ) (call : Call) → before ≤ now → (a : Answer) × OpensInTurn listed before now call.files (IsCallAnswer call) a
 some-due listed before now call m = some-in-turn listed before now call.files (IsCallAnswer call) m (some-of call.command call.files)
+
+pub some-called : (words : List (List ℕ)) (listed : Option Listing) (before now : ℕ) → before ≤ now → HasCall words → HasDue words listed before now
+some-called words listed before now m h = let d = some-due listed before now h.0 m in (d.0, due.command h.0 h.1 d.1)
+
+pub some-usage : (words : List (List ℕ)) (listed : Option Listing) (before now : ℕ) → IsUsage words → HasDue words listed before now
+some-usage words listed before now u = (usage, due.no_command u refl)
+
+pub by-usage : (words : List (List ℕ)) (listed : Option Listing) (before now : ℕ) (a : Answer) → IsUsage words → a ≡ usage → IsDue words listed before now a
+by-usage words listed before now a u e = due.no_command u e
+
+pub by-call : (words : List (List ℕ)) (listed : Option Listing) (before now : ℕ) (call : Call) (a : Answer) → Means words call → OpensInTurn listed before now call.files (IsCallAnswer call) a → IsDue words listed before now a
+by-call words listed before now call a m d = due.command call m d
 
 -- ---- the end of a call
 
@@ -61,12 +73,12 @@ gives-up : (answer : Answer) (out out' diag diag' : Option (List ℕ)) (out_fail
 gives-up answer out out' diag diag' out_failed diag_failed result g = no_memory g.status (no-bytes out out' answer.out g.out_stays) (no-bytes diag diag' answer.diag g.diag_stays)
 
 -- by an answer that was found, or some answer where memory was refused
-pub ends-by : (Due : Answer → Type 0) (words : List (List ℕ)) (listed : Option Listing) (before now : ℕ) (out out' diag diag' : Option (List ℕ)) (out_failed diag_failed : Type 0) (r : Result Answer Memory) (result : Status)
-    → ((a : Answer) → Due a → IsDue words listed before now a) → (a : Answer) × Due a → IfOk r Due → IfOk r (λ a. Gets a out out' diag diag' out_failed diag_failed result) → OnErr r (GivesUp out out' diag diag' result)
+pub ends-by : (words : List (List ℕ)) (listed : Option Listing) (before now : ℕ) (out out' diag diag' : Option (List ℕ)) (out_failed diag_failed : Type 0) (r : Result Answer Memory) (result : Status)
+    → IfOk r (IsDue words listed before now) → OnErr r (HasDue words listed before now) → IfOk r (λ a. Gets a out out' diag diag' out_failed diag_failed result) → OnErr r (GivesUp out out' diag diag' result)
     → Ends words listed before now out out' diag diag' out_failed diag_failed result
-ends-by Due words listed before now out out' diag diag' out_failed diag_failed (Ok a) result is some d g m = record { answer = a; due = is a d; given = g }
-ends-by Due words listed before now out out' diag diag' out_failed diag_failed (Err x) result is some d g m =
-    record { answer = some.0; due = is some.0 some.1; given = gives-up some.0 out out' diag diag' out_failed diag_failed result m }
+ends-by words listed before now out out' diag diag' out_failed diag_failed (Ok a) result d some g m = record { answer = a; due = d; given = g }
+ends-by words listed before now out out' diag diag' out_failed diag_failed (Err x) result d some g m =
+    record { answer = some.0; due = some.1; given = gives-up some.0 out out' diag diag' out_failed diag_failed result m }
 
 -- ---- words and files have one answer
 

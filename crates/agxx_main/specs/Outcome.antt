@@ -44,6 +44,10 @@ pub data IsDue (words : List (List ℕ)) (listed : Option Listing) (before now :
   no_command : IsUsage words → answer ≡ usage → IsDue words listed before now answer
   command : (call : Call) → Means words call → OpensInTurn listed before now call.files (IsCallAnswer call) answer → IsDue words listed before now answer
 
+-- some answer is due
+abbrev pub HasDue : List (List ℕ) → Option Listing → ℕ → ℕ → Type 0
+HasDue words listed before now = (a : Answer) × IsDue words listed before now a
+
 -- a sink got a prefix of these bytes
 abbrev pub GetsPrefix : Option (List ℕ) → Option (List ℕ) → List ℕ → Type 0
 GetsPrefix before after bytes = (n : ℕ) × (n ≤ length bytes) × (after ≡ appended before (take n bytes))

@@ -2,7 +2,7 @@
 
 ghost use Rattle.std.specs.Prelude.{◌≡◌, ◌≤◌, IfOk, OnErr};
 ghost use Rattle.agxx_base.specs.Causes.{Rose};
-ghost use Rattle.agxx_main.specs.Outcome.{Ends, Gets, GivesUp};
+ghost use Rattle.agxx_main.specs.Outcome.{IsDue, HasDue, Ends, Gets, GivesUp};
 ghost use Rattle.agxx_main.specs.Laws.{HasOneAnswer, UsageHasAnswer, CommandHasAnswer, DueIsAnswer};
 
 use crate::answer::Answer;
@@ -38,6 +38,25 @@ fn deliver<O: Sink, E: Sink>(answer: Result<Answer, Memory>, out: &mut O, diag: 
     answer.status
 }
 
+/// What is answered for the words of a command line.
+fn answer<F: Files>(alloc: Global, words: &Words, files: &mut F) -> Result<Answer, Memory>
+    ensures due {
+        IfOk result (IsDue words.now (F.listed files.old) (F.faults files.old) (F.faults files.new))
+    }
+    // Something is due also where memory was refused.
+    ensures some {
+        OnErr result
+            (HasDue words.now (F.listed files.old) (F.faults files.old) (F.faults files.new))
+    }
+    ensures listed { F.listed files.new ≡ F.listed files.old }
+    ensures later { F.faults files.old ≤ F.faults files.new }
+{
+    match read_call(alloc, words)? {
+        None => Answer::usage(alloc),
+        Some(call) => answer_call(alloc, &call, files),
+    }
+}
+
 /// Does what the words of a command line ask for, the program's name left out: reads from `files`, writes the output
 /// to `out` and diagnostics to `diag`, and answers the status.
 pub fn agxx<F: Files, O: Sink, E: Sink>(
@@ -59,12 +78,7 @@ pub fn agxx<F: Files, O: Sink, E: Sink>(
     ensures out_later { O.faults out.old ≤ O.faults out.new }
     ensures diag_later { E.faults diag.old ≤ E.faults diag.new }
 {
-    let answer = match read_call(alloc, words) {
-        Err(Memory) => Err(Memory),
-        Ok(None) => Answer::usage(alloc),
-        Ok(Some(call)) => answer_call(alloc, &call, files),
-    };
-    deliver(answer, out, diag)
+    deliver(answer(alloc, words, files), out, diag)
 }
 
 /// There is an answer for all words and files, and one alone, but for whether and where a file that is no program
