@@ -71,11 +71,9 @@ fn is_meant(command: Command, word: &[u8], names: &[Text]) -> bool
 
 /// The first of some commands that these words mean.
 fn first_meant(commands: &[Command], word: &[u8], names: &[Text]) -> Option<Command>
-    ensures {
-        MatchOption result
-            (IsNone commands.now word.now names.now)
-            (λ command. IsMeant command word.now names.now)
-    }
+    ensures { MatchOption result
+        (IsNone commands.now word.now names.now)
+        (λ command. IsMeant command word.now names.now) }
 {
     match commands {
         [] => None,

@@ -16,7 +16,7 @@ use Rattle.cxx_lex.proofs.Readings.{always_one}
 use Rattle.flip_plan.specs.Plans.{default_plan}
 use Rattle.agxx_main.specs.declared.answer.Answer.{Answer}
 use Rattle.agxx_main.specs.RunAnswers.{woven_answer, source_answer}
-use Rattle.agxx_main.specs.Answers.{usage, name_at, text_at, OpensAll, IsTextAnswer, IsAnswerOf, IsCallAnswer, no_command, command}
+use Rattle.agxx_main.specs.Answers.{usage, name_at, text_at, OpensAll, IsTextAnswer, IsAnswerOf, IsCallAnswer, no_command, called}
 use Rattle.agxx_main.specs.Outcome as due
 use Rattle.agxx_main.specs.Outcome.{OpensInTurn, IsDue, HasDue, GetsPrefix, Gets, no_memory, GivesUp, Ends}
 use Rattle.agxx_main.specs.Laws.{IsAlike, same, HasOneAnswer, UsageHasAnswer, CommandHasAnswer, DueIsAnswer}
@@ -49,7 +49,7 @@ some-due : (listed : Option Listing) (before now : ℕ) (call : Call) → before
 some-due listed before now call m = some-in-turn listed before now call.files (IsCallAnswer call) m (some-of call.command call.files)
 
 pub some-called : (words : List (List ℕ)) (listed : Option Listing) (before now : ℕ) → before ≤ now → HasCall words → HasDue words listed before now
-some-called words listed before now m h = let d = some-due listed before now h.0 m in (d.0, due.command h.0 h.1 d.1)
+some-called words listed before now m h = let d = some-due listed before now h.0 m in (d.0, due.called h.0 h.1 d.1)
 
 pub some-usage : (words : List (List ℕ)) (listed : Option Listing) (before now : ℕ) → IsUsage words → HasDue words listed before now
 some-usage words listed before now u = (usage, due.no_command u refl)
@@ -58,7 +58,7 @@ pub by-usage : (words : List (List ℕ)) (listed : Option Listing) (before now :
 by-usage words listed before now a u e = due.no_command u e
 
 pub by-call : (words : List (List ℕ)) (listed : Option Listing) (before now : ℕ) (call : Call) (a : Answer) → Means words call → OpensInTurn listed before now call.files (IsCallAnswer call) a → IsDue words listed before now a
-by-call words listed before now call a m d = due.command call m d
+by-call words listed before now call a m d = due.called call m d
 
 -- ---- the end of a call
 
@@ -89,9 +89,9 @@ moved-call listing c d files others a i j x =
 
 pub one-answer : HasOneAnswer
 one-answer words files a b (no_command u e) (no_command v f) = same (e ∙ sym f)
-one-answer words files a b (no_command u e) (command call m x) = absurd (u call m)
-one-answer words files a b (command call m x) (no_command u e) = absurd (u call m)
-one-answer words files a b (command call m x) (command other n y) =
+one-answer words files a b (no_command u e) (called call m x) = absurd (u call m)
+one-answer words files a b (called call m x) (no_command u e) = absurd (u call m)
+one-answer words files a b (called call m x) (called other n y) =
     let s = one-call words other call n m in
     one-opens-all files call.files (IsCallAnswer call) a b (one-of call.command call.files) x (moved-call files call.command other.command call.files other.files b s.0 s.1 y)
 
@@ -101,10 +101,10 @@ usage-answered words files u = (usage, no_command u refl)
 pub command-answered : CommandHasAnswer
 command-answered words files call m =
     let x = some-opens-all files call.files (IsCallAnswer call) (some-of call.command call.files) in
-    (x.0, command call m x.1)
+    (x.0, called call m x.1)
 
 -- ---- where files are told and no fault comes, the answer that is due is theirs
 
 pub due-is-answer : DueIsAnswer
 due-is-answer words files before now a none (due.no_command u e) = no_command u e
-due-is-answer words files before now a none (due.command call m d) = command call m (in-turn-told files before now call.files (IsCallAnswer call) a none d)
+due-is-answer words files before now a none (due.called call m d) = called call m (in-turn-told files before now call.files (IsCallAnswer call) a none d)

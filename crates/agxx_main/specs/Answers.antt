@@ -128,4 +128,4 @@ IsCallAnswer call = IsAnswerOf call.command call.files
 -- The answer for these words and files.
 pub data IsAnswer (words : List (List ℕ)) (files : Listing) (answer : Answer) : Type 0 where
   no_command : IsUsage words → answer ≡ usage → IsAnswer words files answer
-  command : (call : Call) → Means words call → OpensAll files call.files (IsCallAnswer call) answer → IsAnswer words files answer
+  called : (call : Call) → Means words call → OpensAll files call.files (IsCallAnswer call) answer → IsAnswer words files answer

@@ -42,7 +42,7 @@ OpensInTurn listed before now (file ∷ files) Then answer =
 
 pub data IsDue (words : List (List ℕ)) (listed : Option Listing) (before now : ℕ) (answer : Answer) : Type 0 where
   no_command : IsUsage words → answer ≡ usage → IsDue words listed before now answer
-  command : (call : Call) → Means words call → OpensInTurn listed before now call.files (IsCallAnswer call) answer → IsDue words listed before now answer
+  called : (call : Call) → Means words call → OpensInTurn listed before now call.files (IsCallAnswer call) answer → IsDue words listed before now answer
 
 -- some answer is due
 abbrev pub HasDue : List (List ℕ) → Option Listing → ℕ → ℕ → Type 0

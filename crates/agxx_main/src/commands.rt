@@ -1,10 +1,11 @@
 //! What the commands answer.
 
-ghost use Rattle.std.specs.Prelude.{◌≡◌, ◌≤◌, ◌+◌, ◌++◌, length, IfOk};
+ghost use Rattle.std.specs.Prelude.{◌≡◌, ◌≤◌, ◌<◌, ◌+◌, ◌++◌, length, IfOk};
 ghost use Rattle.std.specs.List.{All};
 ghost use Rattle.agxx_base.specs.declared.kind.Mode.TheVariants as mode;
 ghost use Rattle.flip_plan.specs.Plans as spec;
 ghost use Rattle.agxx_calls.specs.Commands.{kinds_of};
+ghost use Rattle.agxx_main.specs.Answers as answers;
 ghost use Rattle.agxx_main.specs.Answers.{IsTextAnswer, Plans, IsCallAnswer};
 ghost use Rattle.agxx_main.specs.RunAnswers.{woven_answer, source_answer};
 ghost use Rattle.agxx_main.specs.Outcome.{OpensInTurn};
@@ -21,10 +22,8 @@ use std::alloc::Global;
 /// The answer of `exec` without a plan.
 fn exec(alloc: Global, file: &Text, text: &Text) -> Result<Answer, Memory>
     requires { length text.now ≤ LARGEST_TEXT }
-    ensures {
-        IfOk result (λ answer.
-            IsTextAnswer mode.Woven (woven_answer spec.default_plan) file.now text.now answer)
-    }
+    ensures { IfOk result (λ answer.
+        IsTextAnswer mode.Woven (woven_answer spec.default_plan) file.now text.now answer) }
 {
     let plan = default_plan(alloc)?;
     answer_text(alloc, &Way::Woven(&plan), file, text)
@@ -40,10 +39,8 @@ fn exec_plan(
 ) -> Result<Answer, Memory>
     requires program { length text.now ≤ LARGEST_TEXT }
     requires plan { length plan_text.now ≤ LARGEST_TEXT }
-    ensures {
-        IfOk result (λ answer. Plans plan_file.now plan_text.now
-            (λ plan. IsTextAnswer mode.Woven (woven_answer plan) file.now text.now) answer)
-    }
+    ensures { IfOk result (λ answer. Plans plan_file.now plan_text.now
+        (λ plan. IsTextAnswer mode.Woven (woven_answer plan) file.now text.now) answer) }
 {
     match read_plan(alloc, plan_text, 0) {
         Ok(plan) => answer_text(alloc, &Way::Woven(&plan), file, text),
@@ -62,16 +59,28 @@ fn source(
 ) -> Result<Answer, Memory>
     requires program { length text.now ≤ LARGEST_TEXT }
     requires plan { length plan_text.now ≤ LARGEST_TEXT }
-    ensures {
-        IfOk result (λ answer. Plans plan_file.now plan_text.now
-            (λ plan. IsTextAnswer mode.Source (source_answer plan) file.now text.now) answer)
-    }
+    ensures { IfOk result (λ answer. Plans plan_file.now plan_text.now
+        (λ plan. IsTextAnswer mode.Source (source_answer plan) file.now text.now) answer) }
 {
     match read_plan(alloc, plan_text, 0) {
         Ok(plan) => answer_text(alloc, &Way::Source(&plan), file, text),
         Err(Fault::Refused(refusal)) => Answer::refused(alloc, plan_file, refusal),
         Err(Fault::Memory) => Err(Memory),
     }
+}
+
+fn name_at(call: &Call, index: usize) -> &Text
+    requires { index < length call.now.files }
+    ensures { result.now ≡ answers.name_at call.now.files index }
+{
+    &call.files.item(index).name
+}
+
+fn text_at(texts: &ListOf<Text>, index: usize) -> &Text
+    requires { index < length texts.now }
+    ensures { result.now ≡ answers.text_at texts.now index }
+{
+    texts.item(index)
 }
 
 /// The answer of a command for the texts of its files.
@@ -81,16 +90,15 @@ fn answer_texts(alloc: Global, call: &Call, texts: &ListOf<Text>) -> Result<Answ
     requires within { All (λ text. length text ≤ LARGEST_TEXT) texts.now }
     ensures { IfOk result (IsCallAnswer call.now texts.now) }
 {
-    let files = &call.files;
     match call.command {
-        Command::Exec => exec(alloc, &files.item(0).name, texts.item(0)),
+        Command::Exec => exec(alloc, name_at(call, 0), text_at(texts, 0)),
         Command::ExecPlan => {
-            let (program, plan) = (&files.item(0).name, &files.item(1).name);
-            exec_plan(alloc, program, texts.item(0), plan, texts.item(1))
+            let (program, plan) = (name_at(call, 0), name_at(call, 1));
+            exec_plan(alloc, program, text_at(texts, 0), plan, text_at(texts, 1))
         }
         Command::Source => {
-            let (plan, program) = (&files.item(0).name, &files.item(1).name);
-            source(alloc, program, texts.item(1), plan, texts.item(0))
+            let (plan, program) = (name_at(call, 0), name_at(call, 1));
+            source(alloc, program, text_at(texts, 1), plan, text_at(texts, 0))
         }
     }
 }
@@ -107,17 +115,16 @@ fn answer_files<F: Files>(
     requires files { length call.now.files ≡ length (kinds_of call.now.command) }
     requires texts { length texts + length left.now ≡ length (kinds_of call.now.command) }
     requires within { All (λ text. length text ≤ LARGEST_TEXT) texts }
-    ensures due {
-        IfOk result (OpensInTurn (F.listed files.old) (F.faults files.old) (F.faults files.new)
-            left.now (λ rest. IsCallAnswer call.now (texts ++ rest)))
-    }
+    ensures due { IfOk result (OpensInTurn (F.listed files.old) (F.faults files.old) (F.faults files.new)
+        left.now (λ rest. IsCallAnswer call.now (texts ++ rest))) }
     ensures listed { F.listed files.new ≡ F.listed files.old }
     ensures later { F.faults files.old ≤ F.faults files.new }
 {
     match left {
         [] => answer_texts(alloc, call, &texts),
         [file, left @ ..] => {
-            match open(alloc, &file.name, file.kind.limit(), files)? {
+            let opened = open(alloc, &file.name, file.kind.limit(), files)?;
+            match opened {
                 Opened::Closed(answer) => Ok(answer),
                 Opened::Text(text) => {
                     texts.push(text)?;
@@ -136,12 +143,16 @@ pub(crate) fn answer_call<F: Files>(
     files: &mut F,
 ) -> Result<Answer, Memory>
     requires { length call.now.files ≡ length (kinds_of call.now.command) }
-    ensures due {
-        IfOk result (OpensInTurn (F.listed files.old) (F.faults files.old) (F.faults files.new)
-            call.now.files (IsCallAnswer call.now))
-    }
+    ensures due { IfOk result (OpensInTurn (F.listed files.old) (F.faults files.old) (F.faults files.new)
+        call.now.files (IsCallAnswer call.now)) }
     ensures listed { F.listed files.new ≡ F.listed files.old }
     ensures later { F.faults files.old ≤ F.faults files.new }
 {
-    answer_files(alloc, call, ListOf::new(alloc), call.files.as_slice(), files)
+    answer_files(
+        alloc,
+        call,
+        ListOf::new(alloc),
+        call.files.as_slice(),
+        files,
+    )
 }

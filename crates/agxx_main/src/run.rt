@@ -27,13 +27,11 @@ fn answer_run(
     out: Text,
     report: Report,
 ) -> Result<Answer, Memory>
-    ensures {
-        IfOk result (λ answer. answer ≡ record {
-            status = spec.run_status report.state;
-            out = out;
-            diag = spec.summary file.now setting.now report;
-        })
-    }
+    ensures { IfOk result (λ answer. answer ≡ record {
+      status = spec.run_status report.state;
+      out = out;
+      diag = spec.summary file.now setting.now report;
+    }) }
 {
     let diag = summary(alloc, file.bytes(), setting, report)?;
     Ok(Answer {
@@ -86,10 +84,8 @@ pub(crate) fn run(
     names: &Names,
     program: &Program,
 ) -> Result<Answer, Memory>
-    ensures {
-        IfOk result (λ answer.
-            answer ≡ spec.way_answer way.now file.now names.now (program_tree program.now))
-    }
+    ensures { IfOk result (λ answer.
+        answer ≡ spec.way_answer way.now file.now names.now (program_tree program.now)) }
 {
     let declared = Declared::of(alloc, names, program)?;
     let core = elaborate(alloc, names, &declared, program)?;

@@ -7,24 +7,20 @@ ghost use Rattle.agxx_main.specs.Laws.{HasOneAnswer, UsageHasAnswer, CommandHasA
 
 use crate::answer::Answer;
 use crate::commands::answer_call;
-use agxx_calls::read_call;
 use agxx_base::{Files, Memory, Sink, Status, Words, write_whole};
+use agxx_calls::read_call;
 use std::alloc::Global;
 
 /// Writes an answer to standard output and then to standard error, or tells that memory was refused.
 fn deliver<O: Sink, E: Sink>(answer: Result<Answer, Memory>, out: &mut O, diag: &mut E) -> Status
-    ensures given {
-        IfOk answer (λ a. Gets a (O.taken out.old) (O.taken out.new)
-            (E.taken diag.old) (E.taken diag.new)
-            (Rose (O.faults out.old) (O.faults out.new))
-            (Rose (E.faults diag.old) (E.faults diag.new)) result)
-    }
+    ensures given { IfOk answer (λ a. Gets a (O.taken out.old) (O.taken out.new)
+        (E.taken diag.old) (E.taken diag.new)
+        (Rose (O.faults out.old) (O.faults out.new))
+        (Rose (E.faults diag.old) (E.faults diag.new)) result) }
     ensures out_later { O.faults out.old ≤ O.faults out.new }
     ensures diag_later { E.faults diag.old ≤ E.faults diag.new }
-    ensures memory {
-        OnErr answer (GivesUp (O.taken out.old) (O.taken out.new)
-            (E.taken diag.old) (E.taken diag.new) result)
-    }
+    ensures memory { OnErr answer (GivesUp (O.taken out.old) (O.taken out.new)
+        (E.taken diag.old) (E.taken diag.new) result) }
 {
     let Ok(answer) = answer else {
         return Status::Memory;
@@ -40,18 +36,15 @@ fn deliver<O: Sink, E: Sink>(answer: Result<Answer, Memory>, out: &mut O, diag: 
 
 /// What is answered for the words of a command line.
 fn answer<F: Files>(alloc: Global, words: &Words, files: &mut F) -> Result<Answer, Memory>
-    ensures due {
-        IfOk result (IsDue words.now (F.listed files.old) (F.faults files.old) (F.faults files.new))
-    }
+    ensures due { IfOk result (IsDue words.now (F.listed files.old) (F.faults files.old) (F.faults files.new)) }
     // Something is due also where memory was refused.
-    ensures some {
-        OnErr result
-            (HasDue words.now (F.listed files.old) (F.faults files.old) (F.faults files.new))
-    }
+    ensures some { OnErr result
+        (HasDue words.now (F.listed files.old) (F.faults files.old) (F.faults files.new)) }
     ensures listed { F.listed files.new ≡ F.listed files.old }
     ensures later { F.faults files.old ≤ F.faults files.new }
 {
-    match read_call(alloc, words)? {
+    let call = read_call(alloc, words)?;
+    match call {
         None => Answer::usage(alloc),
         Some(call) => answer_call(alloc, &call, files),
     }
@@ -66,12 +59,10 @@ pub fn agxx<F: Files, O: Sink, E: Sink>(
     out: &mut O,
     diag: &mut E,
 ) -> Status
-    ensures ends {
-        Ends words.now (F.listed files.old) (F.faults files.old) (F.faults files.new)
-            (O.taken out.old) (O.taken out.new) (E.taken diag.old) (E.taken diag.new)
-            (Rose (O.faults out.old) (O.faults out.new))
-            (Rose (E.faults diag.old) (E.faults diag.new)) result
-    }
+    ensures ends { Ends words.now (F.listed files.old) (F.faults files.old) (F.faults files.new)
+        (O.taken out.old) (O.taken out.new) (E.taken diag.old) (E.taken diag.new)
+        (Rose (O.faults out.old) (O.faults out.new))
+        (Rose (E.faults diag.old) (E.faults diag.new)) result }
     ensures listed { F.listed files.new ≡ F.listed files.old }
     // No count of faults falls.
     ensures files_later { F.faults files.old ≤ F.faults files.new }

@@ -2,4 +2,4 @@ use Rattle.std.proofs.Common.{length}
 use Rattle.agxx_main.proofs.commands.+answer_files.Given as goal
 
 abbrev pub decreases-answer_files : goal.decreases-answer_files
-decreases-answer_files l = length l.left.now
+decreases-answer_files g l = length l.left.now
