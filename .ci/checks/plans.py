@@ -3,6 +3,8 @@ files that are not there, with words that are no command, and where nothing can 
 
 import concurrent.futures
 import pathlib
+import resource
+import signal
 import subprocess
 import tempfile
 
@@ -214,10 +216,21 @@ FAULTY = [
     ["source", b"\xff.plan", "a.cc"],
     ["sources", "x.plan", "a.cc"],
     ["source exec", "x.plan", "a.cc"],
+    ["exec", "-.cc"],
+    ["exec", b"\xff.cc"],
+    ["help"],
+    ["help", "exec"],
+    ["exec", "help"],
+    ["x.plan", "exec", "a.cc"],
     # Commands that are not built yet, and aspect files.
     ["source", "x.plan", "a.cc", "g.ah"],
     ["run", "x.plan", "a.cc"],
     ["run", "x.plan", "a.cc", "g.ah"],
+    ["weave"],
+    ["weave", "-x", "a.cc"],
+    ["weave", "a.cc", "b.cc"],
+    ["demo", "0"],
+    ["demo", "07"],
 ]
 
 
@@ -306,6 +319,44 @@ def full_fault(run):
     return f"no room on {stream}: status {came.returncode}, {came.stdout}, {came.stderr}; wanted 7: {COMMANDS[command]} {plan}"
 
 
+# A stream takes so many bytes and then no more: what it got, and what came to the other one.
+CUT_RUNS = [("stdout", 3, b"123", b""), ("stderr", 3, b"end", b"12345\n")]
+
+
+def cut_fault(run):
+    """How a run ends otherwise than with status 7 and a beginning of its answer, where a file takes so many bytes and no more, or nothing."""
+    stream, size, wanted, other = run
+
+    def limited():
+        signal.signal(signal.SIGXFSZ, signal.SIG_IGN)
+        resource.setrlimit(resource.RLIMIT_FSIZE, (size, size))
+
+    with tempfile.TemporaryDirectory() as folder:
+        (pathlib.Path(folder) / "a.cc").write_bytes(b"int main() { std::cout << 12345 << std::endl; }")
+        with open(pathlib.Path(folder) / "stream", "wb") as cut:
+            streams = {"stdout": subprocess.PIPE, "stderr": subprocess.PIPE} | {stream: cut}
+            came = subprocess.run(
+                [program.PROGRAM, "exec", "a.cc"], cwd=folder, timeout=300, restore_signals=False, preexec_fn=limited, **streams
+            )
+        got = (pathlib.Path(folder) / "stream").read_bytes()
+    rest = came.stderr if stream == "stdout" else came.stdout
+    if (came.returncode, got, rest) == (7, wanted, other):
+        return None
+    return f"{stream} of {size} bytes: status {came.returncode}, {got}, {rest}; wanted 7, {wanted}, {other}"
+
+
+# Files that can be opened and not be read.
+UNREAD = ["/", "/proc/self/mem"]
+
+
+def unread_fault(path):
+    """How a run ends otherwise than by telling that it can't read its file, which is a link to this one, or nothing."""
+    with tempfile.TemporaryDirectory() as folder:
+        (pathlib.Path(folder) / "a.cc").symlink_to(path)
+        came = program.run_words(["exec", "a.cc"], folder)
+    return None if came == (6, b"", ["agxx: cannot read a.cc"]) else f"{path} as a.cc: {came}"
+
+
 def main():
     program.skip_without("plans")
     table = list(runs())
@@ -315,7 +366,10 @@ def main():
         faults += [found for found in pool.map(differing, paths) if found]
         full = FULL_RUNS if pathlib.Path(FULL).exists() else []
         faults += [found for found in pool.map(full_fault, full) if found]
-    program.end("plans", faults, len(table) + len(paths) + len(full), "as wanted")
+        unread = [path for path in UNREAD if pathlib.Path(path).exists()]
+        faults += [found for found in pool.map(unread_fault, unread) if found]
+    faults += [found for found in map(cut_fault, CUT_RUNS) if found]
+    program.end("plans", faults, len(table) + len(paths) + len(full) + len(unread) + len(CUT_RUNS), "as wanted")
 
 
 main()

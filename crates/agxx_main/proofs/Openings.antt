@@ -1,96 +1,89 @@
--- What commands answer, by what opening their files gave.
-use Rattle.std.proofs.Common.{◌≡◌, ◌≤◌, ℕ, List, Option, subst, arith}
+-- What a call answers, by what opening its files gave.
+use Rattle.std.proofs.Common.{◌≡◌, ◌≤◌, ◌<◌, ◌-◌, ℕ, List, [], ◌∷◌, ◌++◌, Option, length, take, drop, slice_index_or, ap, ◌∙◌, sym, subst, arith, append-nil, append_assoc}
+use Rattle.std.proofs.Math.Seq.{take-length}
 use Rattle.agxx_base.specs.Files.{Listing}
-use Rattle.agxx_base.specs.declared.kind.Mode.TheVariants as mode
-use Rattle.flip_plan.specs.Plans.{default_plan}
 use Rattle.agxx_main.specs.declared.answer.Answer.{Answer}
-use Rattle.agxx_main.specs.declared.files.Opened.TheVariants as result
+use Rattle.agxx_base.specs.declared.kind.Mode.TheVariants as mode
+use Rattle.agxx_calls.specs.declared.command.Call.{Call}
+use Rattle.agxx_calls.specs.declared.command.Command.TheVariants as command
+use Rattle.flip_plan.specs.Plans.{default_plan}
 use Rattle.agxx_main.specs.RunAnswers.{woven_answer, source_answer}
-use Rattle.agxx_main.specs.Answers.{largest_woven, largest_source, Plans, IsTextAnswer, closed, opened}
-use Rattle.agxx_main.specs.Outcome.{Opening, IsExecDue, IsExecPlanDue, IsSourceDue}
-use Rattle.agxx_main.proofs.Opens.{some-given}
+use Rattle.agxx_calls.specs.declared.command.File.{File}
+use Rattle.agxx_main.specs.declared.files.Opened.TheVariants as result
+use Rattle.agxx_calls.specs.Commands.{limit_of}
+use Rattle.agxx_main.specs.Answers.{name_at, text_at, IsTextAnswer, Plans, IsAnswerOf, IsCallAnswer, closed, opened}
+use Rattle.agxx_main.specs.Outcome.{Opening, OpensInTurn}
+use Rattle.agxx_main.proofs.Opens.{map-in-turn}
 
--- ---- `exec` without a plan
+-- all files were opened
+none-left : (listed : Option Listing) (count : ℕ) (call : Call) (texts : List (List ℕ)) (a : Answer) → IsCallAnswer call texts a → OpensInTurn listed count count [] (λ rest. IsCallAnswer call (texts ++ rest)) a
+none-left listed count call texts a t = (omega arith, subst (λ x. IsCallAnswer call x a) (sym (append-nil texts)) t)
 
-pub exec-closed : (listed : Option Listing) (before now : ℕ) (file : List ℕ) (a : Answer) → Opening listed before now file largest_woven (result.Closed a) → IsExecDue listed before now file a
-exec-closed listed before now file a o = record { content = o.content; given = o.given; is = closed o.opened }
+-- the next one can't be opened
+next-closed : (listed : Option Listing) (before now : ℕ) (file : File) (files : List File) (Then : List (List ℕ) → Answer → Type 0) (a : Answer) → before ≤ now
+    → Opening listed before now file.name (limit_of file.kind) (result.Closed a) → OpensInTurn listed before now (file ∷ files) Then a
+next-closed listed before now file files Then a m o = (now, o.content, m, omega arith, o.given, closed o.opened)
 
-pub exec-opened : (listed : Option Listing) (before now : ℕ) (file text : List ℕ) (a : Answer) → Opening listed before now file largest_woven (result.Text text)
-    → IsTextAnswer mode.Woven (woven_answer default_plan) file text a → IsExecDue listed before now file a
-exec-opened listed before now file text a o t = record { content = o.content; given = o.given; is = opened text o.opened.0 o.opened.1 t }
+-- it was opened, and then the others
+next-opened : (listed after : Option Listing) (before between now : ℕ) (file : File) (files : List File) (call : Call) (texts : List (List ℕ)) (text : List ℕ) (a : Answer)
+    → after ≡ listed → before ≤ between → between ≤ now → Opening listed before between file.name (limit_of file.kind) (result.Text text)
+    → OpensInTurn after between now files (λ rest. IsCallAnswer call ((texts ++ text ∷ []) ++ rest)) a
+    → OpensInTurn listed before now (file ∷ files) (λ rest. IsCallAnswer call (texts ++ rest)) a
+next-opened listed after before between now file files call texts text a i l m o t =
+    let u : OpensInTurn listed between now files (λ rest. IsCallAnswer call ((texts ++ text ∷ []) ++ rest)) a = subst (λ x. OpensInTurn x between now files (λ rest. IsCallAnswer call ((texts ++ text ∷ []) ++ rest)) a) i t in
+    let v = map-in-turn listed between now files (λ rest. IsCallAnswer call ((texts ++ text ∷ []) ++ rest)) (λ rest. IsCallAnswer call (texts ++ text ∷ rest)) a
+    (λ rest. subst (λ x. IsCallAnswer call x a) (append_assoc texts (text ∷ []) rest)) u in
+    (between, o.content, l, m, o.given, opened text o.opened.0 o.opened.1 v)
 
--- ---- `exec` with a plan
+-- ---- the same of a list of files, of which the first is taken
 
-pub exec-plan-closed : (listed : Option Listing) (before now : ℕ) (file plan : List ℕ) (a : Answer) → before ≤ now → Opening listed before now file largest_woven (result.Closed a) → IsExecPlanDue listed before now file plan a
-exec-plan-closed listed before now file plan a m o =
-    let l = some-given listed now now plan in
-    record { between = now; first = m; second = omega arith; content = o.content; lines = l.0; content_given = o.given; lines_given = l.1; is = closed o.opened }
+pub all-opened : (listed : Option Listing) (count : ℕ) (call : Call) (texts : List (List ℕ)) (left : List File) (a : Answer) → length left < 1 → IsCallAnswer call texts a → OpensInTurn listed count count left (λ rest. IsCallAnswer call (texts ++ rest)) a
+all-opened listed count call texts [] a l t = none-left listed count call texts a t
+all-opened listed count call texts (file ∷ files) a l t = absurd (omega arith)
 
-pub exec-plan-no-plan : (listed then : Option Listing) (before start now : ℕ) (file plan text : List ℕ) (a : Answer) → then ≡ listed → before ≤ start → start ≤ now
-    → Opening listed before start file largest_woven (result.Text text) → Opening then start now plan largest_woven (result.Closed a) → IsExecPlanDue listed before now file plan a
-exec-plan-no-plan listed then before start now file plan text a i l m o p =
-    let q : Opening listed start now plan largest_woven (result.Closed a) = subst (λ x. Opening x start now plan largest_woven (result.Closed a)) i p in
-    record {
-      between = start;
-      first = l;
-      second = m;
-      content = o.content;
-      lines = q.content;
-      content_given = o.given;
-      lines_given = q.given;
-      is = opened text o.opened.0 o.opened.1 (closed q.opened);
-    }
+pub first-closed : (listed : Option Listing) (before now : ℕ) (left : List File) (file item : File) (limit : ℕ) (call : Call) (texts : List (List ℕ)) (a : Answer) → 0 < length left → file ≡ slice_index_or left 0 item → limit ≡ limit_of file.kind → before ≤ now
+    → Opening listed before now file.name limit (result.Closed a) → OpensInTurn listed before now left (λ rest. IsCallAnswer call (texts ++ rest)) a
+first-closed listed before now [] file item limit call texts a s e i m o = absurd (omega arith)
+first-closed listed before now (f ∷ fs) file item limit call texts a s e i m o =
+    let p : Opening listed before now file.name (limit_of file.kind) (result.Closed a) = subst (λ l. Opening listed before now file.name l (result.Closed a)) i o in
+    next-closed listed before now f fs (λ rest. IsCallAnswer call (texts ++ rest)) a m (subst (λ x. Opening listed before now x.name (limit_of x.kind) (result.Closed a)) e p)
 
-pub exec-plan-opened : (listed then : Option Listing) (before start now : ℕ) (file plan text lines : List ℕ) (a : Answer) → then ≡ listed → before ≤ start → start ≤ now
-    → Opening listed before start file largest_woven (result.Text text) → Opening then start now plan largest_woven (result.Text lines)
-    → Plans plan lines (λ p. IsTextAnswer mode.Woven (woven_answer p) file text) a → IsExecPlanDue listed before now file plan a
-exec-plan-opened listed then before start now file plan text lines a i l m o p t =
-    let q : Opening listed start now plan largest_woven (result.Text lines) = subst (λ x. Opening x start now plan largest_woven (result.Text lines)) i p in
-    record {
-      between = start;
-      first = l;
-      second = m;
-      content = o.content;
-      lines = q.content;
-      content_given = o.given;
-      lines_given = q.given;
-      is = opened text o.opened.0 o.opened.1 (opened lines q.opened.0 q.opened.1 t);
-    }
+pub first-opened : (listed after : Option Listing) (before between now : ℕ) (left : List File) (file item : File) (limit : ℕ) (call : Call) (texts pushed : List (List ℕ)) (text : List ℕ) (a : Answer)
+    → 0 < length left → file ≡ slice_index_or left 0 item → limit ≡ limit_of file.kind → pushed ≡ texts ++ text ∷ []
+    → after ≡ listed → before ≤ between → between ≤ now → Opening listed before between file.name limit (result.Text text)
+    → OpensInTurn after between now (take (length left - 1) (drop 1 left)) (λ rest. IsCallAnswer call (pushed ++ rest)) a
+    → OpensInTurn listed before now left (λ rest. IsCallAnswer call (texts ++ rest)) a
+first-opened listed after before between now [] file item limit call texts pushed text a s e i p j l m o t = absurd (omega arith)
+first-opened listed after before between now (f ∷ fs) file item limit call texts pushed text a s e i p j l m o t =
+    let len : length (f ∷ fs) - 1 ≡ length fs = omega arith in
+    let rest : take (length (f ∷ fs) - 1) fs ≡ fs = ap (λ k. take k fs) len ∙ take-length fs in
+    let u : OpensInTurn after between now fs (λ rest. IsCallAnswer call (pushed ++ rest)) a = subst (λ z. OpensInTurn after between now z (λ rest. IsCallAnswer call (pushed ++ rest)) a) rest t in
+    let q : Opening listed before between file.name (limit_of file.kind) (result.Text text) = subst (λ k. Opening listed before between file.name k (result.Text text)) i o in
+    next-opened listed after before between now f fs call texts text a j l m (subst (λ x. Opening listed before between x.name (limit_of x.kind) (result.Text text)) e q)
+    (subst (λ z. OpensInTurn after between now fs (λ rest. IsCallAnswer call (z ++ rest)) a) p u)
 
--- ---- `source`
+-- ---- what a command answers for texts, where its parts are these
 
-pub source-closed : (listed : Option Listing) (before now : ℕ) (plan file : List ℕ) (a : Answer) → before ≤ now → Opening listed before now plan largest_woven (result.Closed a) → IsSourceDue listed before now plan file a
-source-closed listed before now plan file a m o =
-    let c = some-given listed now now file in
-    record { between = now; first = m; second = omega arith; lines = o.content; content = c.0; lines_given = o.given; content_given = c.1; is = closed o.opened }
+pub exec-called : (call : Call) (texts : List (List ℕ)) (program text : List ℕ) (a : Answer) → call.command ≡ command.Exec
+    → IsTextAnswer mode.Woven (woven_answer default_plan) program text a → program ≡ name_at call.files 0 → text ≡ text_at texts 0 → IsCallAnswer call texts a
+exec-called call texts program text a i x p t =
+    subst (λ c. IsAnswerOf c call.files texts a) (sym i)
+    (subst (λ z. IsTextAnswer mode.Woven (woven_answer default_plan) (name_at call.files 0) z a) t (subst (λ z. IsTextAnswer mode.Woven (woven_answer default_plan) z text a) p x))
 
-pub source-no-program : (listed then : Option Listing) (before start now : ℕ) (plan file lines : List ℕ) (a : Answer) → then ≡ listed → before ≤ start → start ≤ now
-    → Opening listed before start plan largest_woven (result.Text lines) → Opening then start now file largest_source (result.Closed a) → IsSourceDue listed before now plan file a
-source-no-program listed then before start now plan file lines a i l m o p =
-    let q : Opening listed start now file largest_source (result.Closed a) = subst (λ x. Opening x start now file largest_source (result.Closed a)) i p in
-    record {
-      between = start;
-      first = l;
-      second = m;
-      lines = o.content;
-      content = q.content;
-      lines_given = o.given;
-      content_given = q.given;
-      is = opened lines o.opened.0 o.opened.1 (closed q.opened);
-    }
+pub plan-called : (call : Call) (texts : List (List ℕ)) (program text plan steps : List ℕ) (a : Answer) → call.command ≡ command.ExecPlan → Plans plan steps (λ p. IsTextAnswer mode.Woven (woven_answer p) program text) a
+    → program ≡ name_at call.files 0 → text ≡ text_at texts 0 → plan ≡ name_at call.files 1 → steps ≡ text_at texts 1 → IsCallAnswer call texts a
+plan-called call texts program text plan steps a i x p t q s =
+    subst (λ c. IsAnswerOf c call.files texts a) (sym i)
+    (subst (λ z. Plans (name_at call.files 1) (text_at texts 1) (λ p. IsTextAnswer mode.Woven (woven_answer p) (name_at call.files 0) z) a) t
+    (subst (λ z. Plans (name_at call.files 1) (text_at texts 1) (λ p. IsTextAnswer mode.Woven (woven_answer p) z text) a) p
+    (subst (λ z. Plans (name_at call.files 1) z (λ p. IsTextAnswer mode.Woven (woven_answer p) program text) a) s
+    (subst (λ z. Plans z steps (λ p. IsTextAnswer mode.Woven (woven_answer p) program text) a) q x))))
 
-pub source-opened : (listed then : Option Listing) (before start now : ℕ) (plan file lines text : List ℕ) (a : Answer) → then ≡ listed → before ≤ start → start ≤ now
-    → Opening listed before start plan largest_woven (result.Text lines) → Opening then start now file largest_source (result.Text text)
-    → Plans plan lines (λ p. IsTextAnswer mode.Source (source_answer p) file text) a → IsSourceDue listed before now plan file a
-source-opened listed then before start now plan file lines text a i l m o p t =
-    let q : Opening listed start now file largest_source (result.Text text) = subst (λ x. Opening x start now file largest_source (result.Text text)) i p in
-    record {
-      between = start;
-      first = l;
-      second = m;
-      lines = o.content;
-      content = q.content;
-      lines_given = o.given;
-      content_given = q.given;
-      is = opened lines o.opened.0 o.opened.1 (opened text q.opened.0 q.opened.1 t);
-    }
+pub source-called : (call : Call) (texts : List (List ℕ)) (program text plan steps : List ℕ) (a : Answer) → call.command ≡ command.Source → Plans plan steps (λ p. IsTextAnswer mode.Source (source_answer p) program text) a
+    → program ≡ name_at call.files 1 → text ≡ text_at texts 1 → plan ≡ name_at call.files 0 → steps ≡ text_at texts 0 → IsCallAnswer call texts a
+source-called call texts program text plan steps a i x p t q s =
+    subst (λ c. IsAnswerOf c call.files texts a) (sym i)
+    (subst (λ z. Plans (name_at call.files 0) (text_at texts 0) (λ p. IsTextAnswer mode.Source (source_answer p) (name_at call.files 1) z) a) t
+    (subst (λ z. Plans (name_at call.files 0) (text_at texts 0) (λ p. IsTextAnswer mode.Source (source_answer p) z text) a) p
+    (subst (λ z. Plans (name_at call.files 0) z (λ p. IsTextAnswer mode.Source (source_answer p) program text) a) s
+    (subst (λ z. Plans z steps (λ p. IsTextAnswer mode.Source (source_answer p) program text) a) q x))))

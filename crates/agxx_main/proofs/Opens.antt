@@ -1,5 +1,5 @@
 -- Opening files and plans: what is answered for them, and that it is one.
-use Rattle.std.proofs.Common.{◌≡◌, ℕ, ◌+◌, ◌<◌, ◌≤◌, Bool, true, false, List, [], length, Option, Some, None, ◌⊎◌, inl, inr, refl, sym, ap, ◌∙◌, subst, arith}
+use Rattle.std.proofs.Common.{◌≡◌, ℕ, ◌+◌, ◌<◌, ◌≤◌, Bool, true, false, List, [], ◌∷◌, length, Option, Some, None, ◌⊎◌, inl, inr, refl, sym, ap, ◌∙◌, subst, arith}
 use Rattle.std.specs.Prelude.{nat_le, IfSome, IsSomeAnd, replicate}
 use Rattle.std.proofs.lemmas.Bool.Decides.{nat_tests}
 use Rattle.std.proofs.lemmas.List.{length-replicate}
@@ -9,11 +9,13 @@ use Rattle.agxx_base.specs.declared.fault.Refusal.{Refusal}
 use Rattle.agxx_base.specs.declared.rule.Rule.TheVariants.{S1}
 use Rattle.flip_plan.specs.Plans.{PlanMeaning}
 use Rattle.flip_plan.specs.Reading.{plan_of}
-use Rattle.flip_plan.specs.Refusals.{least}
+use Rattle.agxx_base.specs.Refusals.{least}
 use Rattle.flip_plan.specs.Rules.{violations_of_plan}
 use Rattle.agxx_main.specs.declared.answer.Answer.{Answer}
-use Rattle.agxx_main.specs.Answers.{refused, unreadable, at_beginning, IsClosed, Opens, closed, opened, Plans, refused_plan, accepted_plan}
-use Rattle.agxx_main.specs.Outcome.{Gives, told, untold, failed}
+use Rattle.agxx_calls.specs.declared.command.File.{File}
+use Rattle.agxx_calls.specs.Commands.{limit_of}
+use Rattle.agxx_main.specs.Answers.{refused, unreadable, at_beginning, IsClosed, Opens, closed, opened, OpensAll, Plans, refused_plan, accepted_plan}
+use Rattle.agxx_main.specs.Outcome.{Gives, told, untold, failed, OpensInTurn}
 use Rattle.agxx_main.specs.Laws.{IsAlike, same}
 
 -- ---- there is an answer
@@ -136,16 +138,56 @@ told-content files before now file content none (told other l e) = e ∙ ap (fil
 told-content files before now file content none (untold text l e) = absurd (no-list files l)
 told-content files before now file content none (failed r e) = absurd (none r)
 
-pub told-first : (files : Listing) (before between now : ℕ) (file : List ℕ) (content : Option (List ℕ)) → between ≤ now → (Rose before now → ⊥) → Gives (Some files) before between file content → content ≡ file_named file files
-told-first files before between now file content l none g = told-content files before between file content (λ r. none (rose-later before between now r l)) g
-
-pub told-second : (files : Listing) (before between now : ℕ) (file : List ℕ) (content : Option (List ℕ)) → before ≤ between → (Rose before now → ⊥) → Gives (Some files) between now file content → content ≡ file_named file files
-told-second files before between now file content l none g = told-content files between now file content (λ r. none (rose-earlier before between now r l)) g
-
-pub told-alone : (files : Listing) (before now : ℕ) (file : List ℕ) (content : Option (List ℕ)) → (Rose before now → ⊥) → Gives (Some files) before now file content → content ≡ file_named file files
-told-alone files before now file content none g = told-content files before now file content none g
-
 -- something is given of each file
 pub some-given : (listed : Option Listing) (before now : ℕ) (file : List ℕ) → (content : Option (List ℕ)) × Gives listed before now file content
 some-given None before now file = (Some [], untold [] refl refl)
 some-given (Some files) before now file = (file_named file files, told files refl refl)
+
+-- ---- files in their order
+
+-- for each list of files, where there is one for their texts
+pub some-opens-all : (listing : Listing) (files : List File) (Then : List (List ℕ) → Answer → Type 0) → ((texts : List (List ℕ)) → (a : Answer) × Then texts a) → (a : Answer) × OpensAll listing files Then a
+some-opens-all listing [] Then each = each []
+some-opens-all listing (f ∷ fs) Then each =
+    some-opens f.name (limit_of f.kind) (λ text. OpensAll listing fs (λ texts. Then (text ∷ texts)))
+    (λ text. some-opens-all listing fs (λ texts. Then (text ∷ texts)) (λ texts. each (text ∷ texts))) (file_named f.name listing)
+
+pub one-opens-all : (listing : Listing) (files : List File) (Then : List (List ℕ) → Answer → Type 0) (a b : Answer)
+    → ((texts : List (List ℕ)) (a b : Answer) → Then texts a → Then texts b → IsAlike a b) → OpensAll listing files Then a → OpensAll listing files Then b → IsAlike a b
+one-opens-all listing [] Then a b each x y = each [] a b x y
+one-opens-all listing (f ∷ fs) Then a b each x y =
+    one-opens f.name (limit_of f.kind) (file_named f.name listing) (λ text. OpensAll listing fs (λ texts. Then (text ∷ texts))) a b
+    (λ text a b. one-opens-all listing fs (λ texts. Then (text ∷ texts)) a b (λ texts a b. each (text ∷ texts) a b)) x y
+
+-- the same while faults are counted
+pub some-in-turn : (listed : Option Listing) (before now : ℕ) (files : List File) (Then : List (List ℕ) → Answer → Type 0) → before ≤ now
+    → ((texts : List (List ℕ)) → (a : Answer) × Then texts a) → (a : Answer) × OpensInTurn listed before now files Then a
+some-in-turn listed before now [] Then m each = let e = each [] in (e.0, (m, e.1))
+some-in-turn listed before now (f ∷ fs) Then m each =
+    let c = some-given listed before now f.name in
+    let a = some-opens f.name (limit_of f.kind) (λ text. OpensInTurn listed now now fs (λ texts. Then (text ∷ texts)))
+    (λ text. some-in-turn listed now now fs (λ texts. Then (text ∷ texts)) (omega arith) (λ texts. each (text ∷ texts))) c.0 in
+    (a.0, (now, c.0, m, omega arith, c.1, a.1))
+
+map-opens : (file : List ℕ) (limit : ℕ) (content : Option (List ℕ)) (Then Next : List ℕ → Answer → Type 0) (a : Answer)
+    → ((text : List ℕ) → Then text a → Next text a) → Opens file limit content Then a → Opens file limit content Next a
+map-opens file limit content Then Next a f (closed x) = closed x
+map-opens file limit content Then Next a f (opened text e s t) = opened text e s (f text t)
+
+pub map-in-turn : (listed : Option Listing) (before now : ℕ) (files : List File) (Then Next : List (List ℕ) → Answer → Type 0) (a : Answer)
+    → ((texts : List (List ℕ)) → Then texts a → Next texts a) → OpensInTurn listed before now files Then a → OpensInTurn listed before now files Next a
+map-in-turn listed before now [] Then Next a g x = (x.0, g [] x.1)
+map-in-turn listed before now (f ∷ fs) Then Next a g x =
+    let fold = map-opens f.name (limit_of f.kind) x.1 (λ text. OpensInTurn listed x.0 now fs (λ texts. Then (text ∷ texts))) (λ text. OpensInTurn listed x.0 now fs (λ texts. Next (text ∷ texts))) a
+    (λ text. map-in-turn listed x.0 now fs (λ texts. Then (text ∷ texts)) (λ texts. Next (text ∷ texts)) a (λ texts. g (text ∷ texts))) x.5 in
+    (x.0, x.1, x.2, x.3, x.4, fold)
+
+-- where files are told and no fault comes, what is answered is what is answered for them
+pub in-turn-told : (listing : Listing) (before now : ℕ) (files : List File) (Then : List (List ℕ) → Answer → Type 0) (a : Answer) → (Rose before now → ⊥)
+    → OpensInTurn (Some listing) before now files Then a → OpensAll listing files Then a
+in-turn-told listing before now [] Then a none x = x.1
+in-turn-told listing before now (f ∷ fs) Then a none x =
+    let c : x.1 ≡ file_named f.name listing = told-content listing before x.0 f.name x.1 (λ r. none (rose-later before x.0 now r x.3)) x.4 in
+    let fold = map-opens f.name (limit_of f.kind) x.1 (λ text. OpensInTurn (Some listing) x.0 now fs (λ texts. Then (text ∷ texts))) (λ text. OpensAll listing fs (λ texts. Then (text ∷ texts))) a
+    (λ text. in-turn-told listing x.0 now fs (λ texts. Then (text ∷ texts)) a (λ r. none (rose-earlier before x.0 now r x.2))) x.5 in
+    subst (λ o. Opens f.name (limit_of f.kind) o (λ text. OpensAll listing fs (λ texts. Then (text ∷ texts))) a) c fold

@@ -1,6 +1,6 @@
 -- The text of each program has an answer, and one alone.
 use Rattle.std.proofs.Common.{◌≡◌, ℕ, List, [], Some, Result, Ok, Err, ◌⊎◌, inl, inr, refl, sym, ap, ◌∙◌, subst}
-use Rattle.std.specs.Prelude.{IfOk}
+use Rattle.std.specs.Prelude.{IfOk, OnErr}
 use Rattle.agxx_base.specs.declared.fault.Refusal.{Refusal}
 use Rattle.agxx_base.specs.declared.kind.Mode.{Mode}
 use Rattle.agxx_base.specs.declared.place.Place.{Place}
@@ -28,6 +28,13 @@ use Rattle.agxx_main.specs.Laws.{IsGrammarRule, IsAlike, same, deep}
 pub if-ok : {T E : Type 0} (r : Result T E) (P Q : T → Type 0) → ((a : T) → P a → Q a) → IfOk r P → IfOk r Q
 if-ok (Ok a) P Q f p = f a p
 if-ok (Err e) P Q f p = tt
+
+pub on-ok : {T E : Type 0} (r : Result T E) (P Q : T → Type 0) → IfOk r P → ((a : T) → P a → Q a) → IfOk r Q
+on-ok r P Q p f = if-ok r P Q f p
+
+pub on-err : {T E : Type 0} (r : Result T E) (P : Type 0) → P → OnErr r P
+on-err (Ok a) P p = tt
+on-err (Err e) P p = p
 
 -- a program that violates no rule is run
 pub accepted-answer : (mode : Mode) (run : Running) (file : List ℕ) (names : List (List ℕ)) (q p : ProgramTree) (answer : Answer) → violations_of names mode q ≡ [] → p ≡ q → answer ≡ run file names p → answer ≡ normal_answer mode run file names q

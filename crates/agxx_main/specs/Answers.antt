@@ -1,5 +1,6 @@
 -- The whole answer of the program, for words and files that are told.
-use Rattle.std.specs.Prelude.{◌≡◌, ◌≤◌, ◌<◌, ℕ, List, [], length, Option, Some, None}
+use Rattle.std.specs.Prelude.{◌≡◌, ◌≤◌, ◌<◌, ℕ, List, [], ◌∷◌, length, Option, Some, None, slice_get, unwrap_or}
+use Rattle.std.specs.Option.{option_map_or}
 use Rattle.agxx_base.specs.Files.{Listing, file_named}
 use Rattle.agxx_base.specs.declared.fault.Refusal.{Refusal}
 use Rattle.agxx_base.specs.declared.kind.Mode.{Mode}
@@ -16,10 +17,14 @@ use Rattle.cxx_normal.specs.Normal.{with_main, normal_among}
 use Rattle.cxx_types.specs.Violations.{refusal_of}
 use Rattle.flip_plan.specs.Plans.{PlanMeaning, default_plan}
 use Rattle.flip_plan.specs.Reading.{plan_of}
-use Rattle.flip_plan.specs.Refusals.{least}
+use Rattle.agxx_base.specs.Refusals.{least}
 use Rattle.flip_plan.specs.Rules.{violations_of_plan}
 use Rattle.agxx_main.specs.declared.answer.Answer.{Answer}
-use Rattle.agxx_main.specs.Commands.{MeansExec, MeansExecPlan, MeansSource, IsUsage}
+use Rattle.agxx_calls.specs.declared.command.Call.{Call}
+use Rattle.agxx_calls.specs.declared.command.Command.{Command}
+use Rattle.agxx_calls.specs.declared.command.Command.TheVariants as command
+use Rattle.agxx_calls.specs.declared.command.File.{File}
+use Rattle.agxx_calls.specs.Commands.{limit_of, Means, IsUsage}
 use Rattle.agxx_main.specs.Lines.{usage_line, unreadable_line, refusal_line}
 use Rattle.agxx_main.specs.RunAnswers.{woven_answer, source_answer}
 
@@ -81,14 +86,6 @@ pub data IsTextAnswer (mode : Mode) (run : Running) (file text : List ℕ) (answ
 
 -- ---- files
 
--- the most bytes of a program that is woven text, and of a plan
-abbrev pub largest_woven : ℕ
-largest_woven = 16777216
-
--- the most bytes of a program that is a source
-abbrev pub largest_source : ℕ
-largest_source = 4194304
-
 -- a file that can't be read, or is too large
 abbrev pub IsClosed : List ℕ → ℕ → Option (List ℕ) → Answer → Type 0
 IsClosed file limit None answer = answer ≡ unreadable file
@@ -104,26 +101,31 @@ pub data Plans (file text : List ℕ) (Then : PlanMeaning → Answer → Type 0)
   refused_plan : (refusal : Refusal) → least (violations_of_plan 0 text) ≡ Some refusal → answer ≡ refused file refusal → Plans file text Then answer
   accepted_plan : least (violations_of_plan 0 text) ≡ None → Then (plan_of text) answer → Plans file text Then answer
 
--- ---- commands, where their files have these contents
+-- the files are opened in order, each with its limit: the first that can't be opened is told, or what is answered then for all texts
+abbrev pub OpensAll : Listing → List File → (List (List ℕ) → Answer → Type 0) → Answer → Type 0
+OpensAll listing [] Then = Then []
+OpensAll listing (file ∷ files) Then =
+    Opens file.name (limit_of file.kind) (file_named file.name listing) (λ text. OpensAll listing files (λ texts. Then (text ∷ texts)))
 
--- `exec` without a plan
-abbrev pub IsExecAnswer : List ℕ → Option (List ℕ) → Answer → Type 0
-IsExecAnswer file content answer =
-    Opens file largest_woven content (λ text. IsTextAnswer mode.Woven (woven_answer default_plan) file text) answer
+-- ---- what each command answers for the texts of its files
 
--- `exec` with a plan
-abbrev pub IsExecPlanAnswer : List ℕ → List ℕ → Option (List ℕ) → Option (List ℕ) → Answer → Type 0
-IsExecPlanAnswer file plan content lines answer =
-    Opens file largest_woven content (λ text. Opens plan largest_woven lines (λ steps. Plans plan steps (λ p. IsTextAnswer mode.Woven (woven_answer p) file text))) answer
+abbrev pub name_at : List File → ℕ → List ℕ
+name_at files i = option_map_or (λ file. file.name) (slice_get files i) []
 
--- `source`
-abbrev pub IsSourceAnswer : List ℕ → List ℕ → Option (List ℕ) → Option (List ℕ) → Answer → Type 0
-IsSourceAnswer plan file lines content answer =
-    Opens plan largest_woven lines (λ steps. Opens file largest_source content (λ text. Plans plan steps (λ p. IsTextAnswer mode.Source (source_answer p) file text))) answer
+abbrev pub text_at : List (List ℕ) → ℕ → List ℕ
+text_at texts i = unwrap_or (slice_get texts i) []
+
+abbrev pub IsAnswerOf : Command → List File → List (List ℕ) → Answer → Type 0
+IsAnswerOf command.Exec files texts = IsTextAnswer mode.Woven (woven_answer default_plan) (name_at files 0) (text_at texts 0)
+IsAnswerOf command.ExecPlan files texts =
+    Plans (name_at files 1) (text_at texts 1) (λ plan. IsTextAnswer mode.Woven (woven_answer plan) (name_at files 0) (text_at texts 0))
+IsAnswerOf command.Source files texts =
+    Plans (name_at files 0) (text_at texts 0) (λ plan. IsTextAnswer mode.Source (source_answer plan) (name_at files 1) (text_at texts 1))
+
+abbrev pub IsCallAnswer : Call → List (List ℕ) → Answer → Type 0
+IsCallAnswer call = IsAnswerOf call.command call.files
 
 -- The answer for these words and files.
 pub data IsAnswer (words : List (List ℕ)) (files : Listing) (answer : Answer) : Type 0 where
   no_command : IsUsage words → answer ≡ usage → IsAnswer words files answer
-  exec : (file : List ℕ) → MeansExec words file → IsExecAnswer file (file_named file files) answer → IsAnswer words files answer
-  exec_plan : (file plan : List ℕ) → MeansExecPlan words file plan → IsExecPlanAnswer file plan (file_named file files) (file_named plan files) answer → IsAnswer words files answer
-  source : (plan file : List ℕ) → MeansSource words plan file → IsSourceAnswer plan file (file_named plan files) (file_named file files) answer → IsAnswer words files answer
+  called : (call : Call) → Means words call → OpensAll files call.files (IsCallAnswer call) answer → IsAnswer words files answer

@@ -6,7 +6,8 @@ use Rattle.agxx_base.specs.declared.rule.Rule.{Rule}
 use Rattle.agxx_base.specs.declared.rule.Rule.TheVariants.{G1, G2}
 use Rattle.agxx_base.specs.Files.{Listing}
 use Rattle.agxx_main.specs.declared.answer.Answer.{Answer}
-use Rattle.agxx_main.specs.Commands.{MeansExec, MeansExecPlan, MeansSource, IsUsage}
+use Rattle.agxx_calls.specs.declared.command.Call.{Call}
+use Rattle.agxx_calls.specs.Commands.{Means, IsUsage}
 use Rattle.agxx_main.specs.Answers.{refused, IsAnswer}
 use Rattle.agxx_main.specs.Outcome.{IsDue}
 
@@ -27,10 +28,8 @@ abbrev pub UsageHasAnswer : Type 0
 UsageHasAnswer = (words : List (List ℕ)) (files : Listing) → IsUsage words → (a : Answer) × IsAnswer words files a
 
 -- each command has one
-pub record CommandHasAnswer : Type 0 where
-  pub exec : (words : List (List ℕ)) (files : Listing) (file : List ℕ) → MeansExec words file → (a : Answer) × IsAnswer words files a
-  pub exec_plan : (words : List (List ℕ)) (files : Listing) (file plan : List ℕ) → MeansExecPlan words file plan → (a : Answer) × IsAnswer words files a
-  pub source : (words : List (List ℕ)) (files : Listing) (plan file : List ℕ) → MeansSource words plan file → (a : Answer) × IsAnswer words files a
+abbrev pub CommandHasAnswer : Type 0
+CommandHasAnswer = (words : List (List ℕ)) (files : Listing) (call : Call) → Means words call → (a : Answer) × IsAnswer words files a
 
 -- what `agxx` promises, where files are told and no read fails: the answer for these files
 abbrev pub DueIsAnswer : Type 0

@@ -1,4 +1,3 @@
-pub mod Commands
 pub mod Lines
 pub mod RunAnswers
 pub mod Answers

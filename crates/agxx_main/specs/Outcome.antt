@@ -1,5 +1,5 @@
 -- What a call of the program does, whatever fails.
-use Rattle.std.specs.Prelude.{◌≡◌, ◌≤◌, ℕ, List, length, take, Option, Some, None}
+use Rattle.std.specs.Prelude.{◌≡◌, ◌≤◌, ℕ, List, [], ◌∷◌, length, take, Option, Some, None}
 use Rattle.agxx_base.specs.Causes.{Rose}
 use Rattle.agxx_base.specs.Files.{Listing, file_named}
 use Rattle.agxx_base.specs.Sink.{appended}
@@ -8,8 +8,10 @@ use Rattle.agxx_base.specs.declared.status.Status.TheVariants.{WriteFault, Memor
 use Rattle.agxx_main.specs.declared.answer.Answer.{Answer}
 use Rattle.agxx_main.specs.declared.files.Opened.{Opened}
 use Rattle.agxx_main.specs.declared.files.Opened.TheVariants as opened
-use Rattle.agxx_main.specs.Commands.{MeansExec, MeansExecPlan, MeansSource, IsUsage}
-use Rattle.agxx_main.specs.Answers.{usage, IsClosed, IsExecAnswer, IsExecPlanAnswer, IsSourceAnswer}
+use Rattle.agxx_calls.specs.declared.command.Call.{Call}
+use Rattle.agxx_calls.specs.declared.command.File.{File}
+use Rattle.agxx_calls.specs.Commands.{limit_of, Means, IsUsage}
+use Rattle.agxx_main.specs.Answers.{usage, IsClosed, Opens, IsCallAnswer}
 
 -- What reading a file may give while the count of faults goes from one number to another: what the list says that is told;
 -- any text where none is told; or nothing, where the count rose.
@@ -30,37 +32,21 @@ pub record Opening (listed : Option Listing) (before now : ℕ) (file : List ℕ
 
 -- ---- the answer that is due, where files give what they may
 
-pub record IsExecDue (listed : Option Listing) (before now : ℕ) (file : List ℕ) (answer : Answer) : Type 0 where
-  pub content : Option (List ℕ)
-  pub given : Gives listed before now file content
-  pub is : IsExecAnswer file content answer
-
--- the files are read one after the other: `between` is the count of faults behind the first
-pub record IsExecPlanDue (listed : Option Listing) (before now : ℕ) (file plan : List ℕ) (answer : Answer) : Type 0 where
-  pub between : ℕ
-  pub first : before ≤ between
-  pub second : between ≤ now
-  pub content : Option (List ℕ)
-  pub lines : Option (List ℕ)
-  pub content_given : Gives listed before between file content
-  pub lines_given : Gives listed between now plan lines
-  pub is : IsExecPlanAnswer file plan content lines answer
-
-pub record IsSourceDue (listed : Option Listing) (before now : ℕ) (plan file : List ℕ) (answer : Answer) : Type 0 where
-  pub between : ℕ
-  pub first : before ≤ between
-  pub second : between ≤ now
-  pub lines : Option (List ℕ)
-  pub content : Option (List ℕ)
-  pub lines_given : Gives listed before between plan lines
-  pub content_given : Gives listed between now file content
-  pub is : IsSourceAnswer plan file lines content answer
+-- The files are opened in order, while the count of faults goes from one number to another: the first that can't be opened is
+-- told, or what is answered then for all texts. `between` is the count behind the first file.
+abbrev pub OpensInTurn : Option Listing → ℕ → ℕ → List File → (List (List ℕ) → Answer → Type 0) → Answer → Type 0
+OpensInTurn listed before now [] Then answer = (before ≤ now) × Then [] answer
+OpensInTurn listed before now (file ∷ files) Then answer =
+    (between : ℕ) × (content : Option (List ℕ)) × (before ≤ between) × (between ≤ now) × Gives listed before between file.name content
+    × Opens file.name (limit_of file.kind) content (λ text. OpensInTurn listed between now files (λ texts. Then (text ∷ texts))) answer
 
 pub data IsDue (words : List (List ℕ)) (listed : Option Listing) (before now : ℕ) (answer : Answer) : Type 0 where
   no_command : IsUsage words → answer ≡ usage → IsDue words listed before now answer
-  exec : (file : List ℕ) → MeansExec words file → IsExecDue listed before now file answer → IsDue words listed before now answer
-  exec_plan : (file plan : List ℕ) → MeansExecPlan words file plan → IsExecPlanDue listed before now file plan answer → IsDue words listed before now answer
-  source : (plan file : List ℕ) → MeansSource words plan file → IsSourceDue listed before now plan file answer → IsDue words listed before now answer
+  called : (call : Call) → Means words call → OpensInTurn listed before now call.files (IsCallAnswer call) answer → IsDue words listed before now answer
+
+-- some answer is due
+abbrev pub HasDue : List (List ℕ) → Option Listing → ℕ → ℕ → Type 0
+HasDue words listed before now = (a : Answer) × IsDue words listed before now a
 
 -- a sink got a prefix of these bytes
 abbrev pub GetsPrefix : Option (List ℕ) → Option (List ℕ) → List ℕ → Type 0

@@ -37,7 +37,8 @@ pub(crate) fn open<F: Files>(
     limit: u32,
     files: &mut F,
 ) -> Result<Opened, Memory>
-    ensures opening { IfOk result (λ opened. Opening (F.listed files.old) (F.faults files.old) (F.faults files.new) file.now limit opened) }
+    ensures opening { IfOk result (λ opened. Opening (F.listed files.old) (F.faults files.old) (F.faults files.new)
+        file.now limit opened) }
     ensures listed { F.listed files.new ≡ F.listed files.old }
     ensures later { F.faults files.old ≤ F.faults files.new }
 {

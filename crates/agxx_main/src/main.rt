@@ -11,11 +11,8 @@ mod line;
 mod program;
 mod run;
 mod summary;
-#[cfg(test)]
-mod tests;
 mod top;
 mod way;
-mod words;
 
 use agxx_base::{DiskFiles, Memory, Status, StdSink, Text, Words};
 use std::process::ExitCode;

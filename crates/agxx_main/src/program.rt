@@ -11,7 +11,7 @@ ghost use Rattle.agxx_main.specs.RunAnswers.{mode_of, way_answer};
 use crate::answer::Answer;
 use crate::run::run;
 use crate::way::Way;
-use agxx_base::{Fault, Memory, Names, Text};
+use agxx_base::{Fault, LARGEST_TEXT, Memory, Names, Text};
 use cxx_lex::{Toks, lex_all};
 use cxx_normal::normal;
 use cxx_parse::parse_program;
@@ -27,7 +27,8 @@ fn answer_normal(
     names: &Names,
     normal: Program,
 ) -> Result<Answer, Memory>
-    ensures { IfOk result (λ answer. answer ≡ normal_answer (mode_of way.now) (way_answer way.now) file.now names.now (program_tree normal)) }
+    ensures { IfOk result (λ answer. answer ≡ normal_answer (mode_of way.now) (way_answer way.now)
+        file.now names.now (program_tree normal)) }
 {
     match check(alloc, names, normal, way.mode()) {
         Ok(typed) => run(alloc, way, file, names, typed.program()),
@@ -44,7 +45,8 @@ fn answer_program(
     names: &mut Names,
     program: Program,
 ) -> Result<Answer, Memory>
-    ensures { IfOk result (λ answer. answer ≡ normal_answer (mode_of way.now) (way_answer way.now) file.now (with_main names.old) (normal_among (with_main names.old) (program_tree program))) }
+    ensures { IfOk result (λ answer. answer ≡ normal_answer (mode_of way.now) (way_answer way.now)
+        file.now (with_main names.old) (normal_among (with_main names.old) (program_tree program))) }
 {
     let normal = normal(alloc, &program, names)?;
     answer_normal(alloc, way, file, names, normal)
@@ -59,7 +61,8 @@ fn answer_tokens(
     toks: &Toks,
 ) -> Result<Answer, Memory>
     requires { HasTokens (mode_of way.now) 0 text.now (tokens_of toks.now.items) toks.now.end }
-    ensures { IfOk result (λ answer. IsTextAnswer (mode_of way.now) (way_answer way.now) file.now text.now answer) }
+    ensures { IfOk result (λ answer.
+        IsTextAnswer (mode_of way.now) (way_answer way.now) file.now text.now answer) }
 {
     let mut names = Names::new(alloc);
     match parse_program(alloc, &mut names, toks, way.mode()) {
@@ -76,8 +79,9 @@ pub(crate) fn answer_text(
     file: &Text,
     text: &Text,
 ) -> Result<Answer, Memory>
-    requires { length text.now ≤ 16777216 }
-    ensures { IfOk result (λ answer. IsTextAnswer (mode_of way.now) (way_answer way.now) file.now text.now answer) }
+    requires { length text.now ≤ LARGEST_TEXT }
+    ensures { IfOk result (λ answer.
+        IsTextAnswer (mode_of way.now) (way_answer way.now) file.now text.now answer) }
 {
     match lex_all(alloc, text.bytes(), 0, way.mode()) {
         Ok(toks) => answer_tokens(alloc, way, file, text, &toks),

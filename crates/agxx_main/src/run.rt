@@ -13,7 +13,7 @@ use cxx_elaborate::elaborate;
 use cxx_names::Declared;
 use cxx_tree::Program;
 use flip_plan::Plan;
-use plan_runs::{Report, Watch};
+use plan_runs::{Report, RunError, Watch};
 use source_steps::SourceRun;
 use std::alloc::Global;
 use step_setting::Setting;
@@ -27,7 +27,11 @@ fn answer_run(
     out: Text,
     report: Report,
 ) -> Result<Answer, Memory>
-    ensures { IfOk result (λ answer. answer ≡ record { status = spec.run_status report.state; out = out; diag = spec.summary file.now setting.now report }) }
+    ensures { IfOk result (λ answer. answer ≡ record {
+      status = spec.run_status report.state;
+      out = out;
+      diag = spec.summary file.now setting.now report;
+    }) }
 {
     let diag = summary(alloc, file.bytes(), setting, report)?;
     Ok(Answer {
@@ -46,7 +50,7 @@ fn run_woven(alloc: Global, plan: &Plan, file: &Text, setting: &Setting) -> Resu
     let mut out = Buffer::new(alloc);
     match run.run(plan, &mut out, &mut watch) {
         Ok(report) => answer_run(alloc, file, setting, out.into_text(), report),
-        Err(_) => Err(Memory),
+        Err(RunError::Memory | RunError::WriteFault) => Err(Memory),
     }
 }
 
@@ -58,7 +62,7 @@ fn run_source(alloc: Global, plan: &Plan, file: &Text, setting: &Setting) -> Res
     let mut out = Buffer::new(alloc);
     match run.run(plan, &mut out) {
         Ok(report) => answer_run(alloc, file, setting, out.into_text(), report),
-        Err(_) => Err(Memory),
+        Err(RunError::Memory | RunError::WriteFault) => Err(Memory),
     }
 }
 
@@ -80,7 +84,8 @@ pub(crate) fn run(
     names: &Names,
     program: &Program,
 ) -> Result<Answer, Memory>
-    ensures { IfOk result (λ answer. answer ≡ spec.way_answer way.now file.now names.now (program_tree program.now)) }
+    ensures { IfOk result (λ answer.
+        answer ≡ spec.way_answer way.now file.now names.now (program_tree program.now)) }
 {
     let declared = Declared::of(alloc, names, program)?;
     let core = elaborate(alloc, names, &declared, program)?;

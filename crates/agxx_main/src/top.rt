@@ -2,21 +2,25 @@
 
 ghost use Rattle.std.specs.Prelude.{◌≡◌, ◌≤◌, IfOk, OnErr};
 ghost use Rattle.agxx_base.specs.Causes.{Rose};
-ghost use Rattle.agxx_main.specs.Outcome.{Ends, Gets, GivesUp};
+ghost use Rattle.agxx_main.specs.Outcome.{IsDue, HasDue, Ends, Gets, GivesUp};
 ghost use Rattle.agxx_main.specs.Laws.{HasOneAnswer, UsageHasAnswer, CommandHasAnswer, DueIsAnswer};
 
 use crate::answer::Answer;
-use crate::commands::{exec, exec_plan, source};
-use crate::words::{Command, read_command};
+use crate::commands::answer_call;
 use agxx_base::{Files, Memory, Sink, Status, Words, write_whole};
+use agxx_calls::read_call;
 use std::alloc::Global;
 
 /// Writes an answer to standard output and then to standard error, or tells that memory was refused.
 fn deliver<O: Sink, E: Sink>(answer: Result<Answer, Memory>, out: &mut O, diag: &mut E) -> Status
-    ensures given { IfOk answer (λ a. Gets a (O.taken out.old) (O.taken out.new) (E.taken diag.old) (E.taken diag.new) (Rose (O.faults out.old) (O.faults out.new)) (Rose (E.faults diag.old) (E.faults diag.new)) result) }
+    ensures given { IfOk answer (λ a. Gets a (O.taken out.old) (O.taken out.new)
+        (E.taken diag.old) (E.taken diag.new)
+        (Rose (O.faults out.old) (O.faults out.new))
+        (Rose (E.faults diag.old) (E.faults diag.new)) result) }
     ensures out_later { O.faults out.old ≤ O.faults out.new }
     ensures diag_later { E.faults diag.old ≤ E.faults diag.new }
-    ensures memory { OnErr answer (GivesUp (O.taken out.old) (O.taken out.new) (E.taken diag.old) (E.taken diag.new) result) }
+    ensures memory { OnErr answer (GivesUp (O.taken out.old) (O.taken out.new)
+        (E.taken diag.old) (E.taken diag.new) result) }
 {
     let Ok(answer) = answer else {
         return Status::Memory;
@@ -30,8 +34,24 @@ fn deliver<O: Sink, E: Sink>(answer: Result<Answer, Memory>, out: &mut O, diag: 
     answer.status
 }
 
-/// Does what the words of a command line ask for, the program's name left out: reads from `files`, writes the output to
-/// `out` and diagnostics to `diag`, and answers the status.
+/// What is answered for the words of a command line.
+fn answer<F: Files>(alloc: Global, words: &Words, files: &mut F) -> Result<Answer, Memory>
+    ensures due { IfOk result (IsDue words.now (F.listed files.old) (F.faults files.old) (F.faults files.new)) }
+    // Something is due also where memory was refused.
+    ensures some { OnErr result
+        (HasDue words.now (F.listed files.old) (F.faults files.old) (F.faults files.new)) }
+    ensures listed { F.listed files.new ≡ F.listed files.old }
+    ensures later { F.faults files.old ≤ F.faults files.new }
+{
+    let call = read_call(alloc, words)?;
+    match call {
+        None => Answer::usage(alloc),
+        Some(call) => answer_call(alloc, &call, files),
+    }
+}
+
+/// Does what the words of a command line ask for, the program's name left out: reads from `files`, writes the output
+/// to `out` and diagnostics to `diag`, and answers the status.
 pub fn agxx<F: Files, O: Sink, E: Sink>(
     alloc: Global,
     words: &Words,
@@ -39,29 +59,22 @@ pub fn agxx<F: Files, O: Sink, E: Sink>(
     out: &mut O,
     diag: &mut E,
 ) -> Status
-    ensures ends { Ends words.now (F.listed files.old) (F.faults files.old) (F.faults files.new) (O.taken out.old) (O.taken out.new) (E.taken diag.old) (E.taken diag.new)
-        (Rose (O.faults out.old) (O.faults out.new)) (Rose (E.faults diag.old) (E.faults diag.new)) result }
+    ensures ends { Ends words.now (F.listed files.old) (F.faults files.old) (F.faults files.new)
+        (O.taken out.old) (O.taken out.new) (E.taken diag.old) (E.taken diag.new)
+        (Rose (O.faults out.old) (O.faults out.new))
+        (Rose (E.faults diag.old) (E.faults diag.new)) result }
     ensures listed { F.listed files.new ≡ F.listed files.old }
     // No count of faults falls.
     ensures files_later { F.faults files.old ≤ F.faults files.new }
     ensures out_later { O.faults out.old ≤ O.faults out.new }
     ensures diag_later { E.faults diag.old ≤ E.faults diag.new }
 {
-    match read_command(words) {
-        None => deliver(Answer::usage(alloc), out, diag),
-        Some(Command::Exec(file)) => deliver(exec(alloc, file, files), out, diag),
-        Some(Command::ExecPlan(file, plan)) => {
-            deliver(exec_plan(alloc, file, plan, files), out, diag)
-        }
-        Some(Command::Source(plan, file)) => {
-            deliver(source(alloc, plan, file, files), out, diag)
-        }
-    }
+    deliver(answer(alloc, words, files), out, diag)
 }
 
-/// There is an answer for all words and files, and one alone, but for whether and where a file that is no program within the
-/// limits is told to be too deep. It is what `agxx` answers where files are told and no read or write fails. The function
-/// does nothing: it carries the laws.
+/// There is an answer for all words and files, and one alone, but for whether and where a file that is no program
+/// within the limits is told to be too deep. It is what `agxx` answers where files are told and no read or write fails.
+/// The function does nothing: it carries the laws.
 pub fn answers_are_determined()
     ensures one { HasOneAnswer }
     ensures usage { UsageHasAnswer }
