@@ -8,12 +8,9 @@ pub mod ElaboratedProgram
 pub mod ExprView
 pub mod StmtView
 pub mod ProgramView
-pub mod Laws
 pub mod Kept
 pub mod KeptParts
 pub mod KeptExprs
 pub mod KeptStmts
 pub mod Codes
 pub mod Examples
-pub mod FunctionNumbers
-pub mod WiderExample

@@ -4,13 +4,11 @@
 #![tactic(auto)]
 
 mod expr;
-mod laws;
 mod program;
 mod stmt;
 mod types;
 
 pub use expr::{Callee, Expr, Left, Member, Object, Variable};
-pub use laws::{examples_elaborate, numbering_keeps_core, numbers_mean_functions};
 pub use program::{Class, Function, FunctionKind, Global, Param, Program, Word};
 pub use stmt::{Mutex, Printed, Source, Stmt};
 pub use types::{binary_type, left_type, type_of, unary_type};

@@ -11,7 +11,7 @@ use Rattle.cxx_normal.specs.Entry.{ends_with_return, followed_by, return_zero, r
 use Rattle.cxx_normal.specs.Declarations.{ordered, prototype_of}
 use Rattle.cxx_normal.specs.Normal.{rebuilt, normal_among}
 use Rattle.cxx_core.specs.ElaboratedProgram.{core_program}
-use Rattle.cxx_core.proofs.Renumbered.{kept}
+use Rattle.core_laws.proofs.Renumbered.{kept}
 use Rattle.sum_programs.specs.SumPrograms.{Print, SumProgram, main_tree, tree_of, prints_before, return_tree}
 
 returns : (last : s.StmtTrees) (qs : List Print) → ((b : Bool) → ends_with_return b last ≡ true) → (b : Bool) → ends_with_return b (prints_before last qs) ≡ true

@@ -13,10 +13,10 @@ use Rattle.cxx_core.specs.CoreProgram.{CoreFunction}
 use Rattle.cxx_core.specs.Meanings.{Scope, Within, type_named, kind_named}
 use Rattle.cxx_core.specs.ElaboratedStmt.{core_block}
 use Rattle.cxx_core.specs.ElaboratedProgram as k
-use Rattle.cxx_core.specs.Laws.{NumberingKeepsCore}
-use Rattle.cxx_core.proofs.RenumberedExprs.{expr-kept, exprs-kept}
-use Rattle.cxx_core.proofs.RenumberedStmts.{stmt-kept, block-kept}
-use Rattle.cxx_core.proofs.RenumberedNames.{declared-kept}
+use Rattle.core_laws.specs.Laws.{NumberingKeepsCore}
+use Rattle.core_laws.proofs.RenumberedExprs.{expr-kept, exprs-kept}
+use Rattle.core_laws.proofs.RenumberedStmts.{stmt-kept, block-kept}
+use Rattle.core_laws.proofs.RenumberedNames.{declared-kept}
 
 -- ---- functions
 

@@ -1,5 +1,5 @@
-use Rattle.cxx_core.proofs.Examples.{elaborated, wider_elaborated}
-use Rattle.cxx_core.proofs.laws.examples_elaborate.Goals as goal
+use Rattle.core_laws.proofs.Examples.{elaborated, wider_elaborated}
+use Rattle.core_laws.proofs.laws.examples_elaborate.Goals as goal
 
 pub returns-clause-small : goal.returns-clause-small
 returns-clause-small c = elaborated

@@ -15,8 +15,8 @@ use Rattle.cxx_core.specs.CoreExpr.{CoreObject, CoreCallee}
 use Rattle.cxx_core.specs.CoreProgram.{FunctionKind, plain, constructor, destructor, CoreFunction}
 use Rattle.cxx_core.specs.Meanings.{Scope, object_at, bare_callee, method_in, method_found, callee_at}
 use Rattle.cxx_core.specs.ElaboratedProgram as k
-use Rattle.cxx_core.specs.FunctionNumbers.{Any, StandsAt, IsCalled, within_program, NumbersMeanFunctions}
-use Rattle.cxx_core.proofs.Positions.{Held, AreGood, at-numbered, decls-good, none-good}
+use Rattle.core_laws.specs.FunctionNumbers.{Any, StandsAt, IsCalled, within_program, NumbersMeanFunctions}
+use Rattle.core_laws.proofs.Positions.{Held, AreGood, at-numbered, decls-good, none-good}
 
 -- what is found on top was there before, or a class of the list has it
 topmost-has : {A : Type 0} (find : ClassId → Option A) (cs : List ClassId) (before : Option (ClassId × A)) (x : ClassId × A) → look.topmost find before cs ≡ Some x → (before ≡ Some x) ⊎ (find x.0 ≡ Some x.1)

@@ -1,9 +1,9 @@
 //! Laws of the core form.
 
-ghost use Rattle.cxx_core.specs.Laws.{NumberingKeepsCore};
-ghost use Rattle.cxx_core.specs.FunctionNumbers.{NumbersMeanFunctions};
+ghost use Rattle.core_laws.specs.Laws.{NumberingKeepsCore};
+ghost use Rattle.core_laws.specs.FunctionNumbers.{NumbersMeanFunctions};
 ghost use Rattle.cxx_core.specs.Examples.{ExamplesElaborate};
-ghost use Rattle.cxx_core.specs.WiderExample.{WiderExampleElaborates};
+ghost use Rattle.core_laws.specs.WiderExample.{WiderExampleElaborates};
 
 /// However the nodes of a program are numbered, what it declares and its core form stay.
 pub fn numbering_keeps_core()

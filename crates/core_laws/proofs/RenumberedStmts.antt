@@ -17,7 +17,7 @@ use Rattle.cxx_core.specs.CoreStmt.{CoreStmt}
 use Rattle.cxx_core.specs.Meanings.{Scope, Within, on_base, on_callee}
 use Rattle.cxx_core.specs.ElaboratedExpr.{core_expr, core_call}
 use Rattle.cxx_core.specs.ElaboratedStmt as k
-use Rattle.cxx_core.proofs.RenumberedExprs.{left-place, expr-place, name-kept, left-kept, expr-kept, exprs-kept, call-kept}
+use Rattle.core_laws.proofs.RenumberedExprs.{left-place, expr-place, name-kept, left-kept, expr-kept, exprs-kept, call-kept}
 
 module _ (w : Within) where
   source-kept : (scope : Scope) (x : e.ExprTree) (m : ℕ) → k.core_source w scope (n.number_expr x m).0 ≡ k.core_source w scope x

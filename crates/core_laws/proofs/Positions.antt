@@ -18,7 +18,7 @@ use Rattle.cxx_names.specs.Declarations as d
 use Rattle.cxx_core.specs.CoreProgram.{FunctionKind, plain, constructor, destructor, CoreFunction}
 use Rattle.cxx_core.specs.Meanings.{Within, type_named}
 use Rattle.cxx_core.specs.ElaboratedProgram as k
-use Rattle.cxx_core.specs.FunctionNumbers.{Any}
+use Rattle.core_laws.specs.FunctionNumbers.{Any}
 
 -- ---- lists
 
