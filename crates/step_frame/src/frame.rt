@@ -1,8 +1,14 @@
 //! The run of a function.
 
+ghost use Rattle.std.specs.Prelude.{◌≡◌, Some, IfOk, OnOk};
+ghost use Rattle.step_machine.specs.Frame.{pushed};
+ghost use Rattle.step_machine.specs.Turn.{handed};
+ghost use Rattle.step_frame.specs.Threads.{Took, IsTaken};
+
 use crate::agenda::Agenda;
 use crate::stack::Stack;
-use agxx_base::{FnId, ObjectId};
+use crate::work::Work;
+use agxx_base::{FnId, Memory, ObjectId};
 use std::marker::Model;
 use step_machine::Datum;
 use step_world::Entries;
@@ -47,4 +53,45 @@ impl<'p> Model for Frame<'p> {
       kept = frame.kept;
       items = frame.agenda;
     } };
+}
+
+impl<'p> Frame<'p> {
+    /// Gives it a value.
+    fn give(&mut self, datum: Datum) -> Result<(), Memory>
+        ensures { OnOk result (self.new ≡ pushed datum self.old) }
+    {
+        self.values.push(datum)?;
+        Ok(())
+    }
+
+    /// Takes its first item, if it has one.
+    fn take_work(&mut self) -> Result<Option<Work<'p>>, Memory>
+        ensures { IfOk result (λ taken. Took self.old self.new taken) }
+    {
+        self.agenda.pop()
+    }
+}
+
+impl<'p> Stack<Frame<'p>> {
+    /// Gives a value to the frame on top, if there is one.
+    #[tactic(auto, using(crate::proofs::Tops::given))]
+    pub(crate) fn give(&mut self, datum: Datum) -> Result<(), Memory>
+        ensures { OnOk result (self.new ≡ handed (Some datum) self.old) }
+    {
+        match self.items.last_mut() {
+            None => Ok(()),
+            Some(frame) => frame.give(datum),
+        }
+    }
+
+    /// Takes the first item of the frame on top, if it has one.
+    #[tactic(auto, using(crate::proofs::Tops::taken))]
+    pub(crate) fn take_work(&mut self) -> Result<Option<Work<'p>>, Memory>
+        ensures { IfOk result (λ taken. IsTaken self.old self.new taken) }
+    {
+        match self.items.last_mut() {
+            None => Ok(None),
+            Some(frame) => frame.take_work(),
+        }
+    }
 }
