@@ -94,6 +94,7 @@ fn settle<'p>(
 }
 
 /// Takes the running frame of a thread and its first item, if it has one.
+#[tactic(auto, using(crate::proofs::Takes::taken_none, crate::proofs::Takes::taken_some))]
 fn take<'p>(thread: &mut Thread<'p>) -> Result<Option<(Frame<'p>, Work<'p>)>, Memory>
     ensures { IfOk result (λ taken. MatchOption taken ((thread.new ≡ thread.old) × (has_items thread.old ≡ false)) (λ r. thread.old ≡ put_back (item_of r.1) r.0 ∷ thread.new)) }
 {

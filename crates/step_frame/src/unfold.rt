@@ -106,7 +106,7 @@ impl<'p> Frame<'p> {
     pub fn call(&mut self, callee: Callee, arguments: &'p [Expr]) -> Result<Outcome, Memory>
         ensures { IfOk result (λ r. HasPlanned self.old self.new r
             (act.pointer_on (option_map object_core callee.object)
-                (exprs_on (exprs_core arguments.now) (it.call (callee_core callee) ∷ self.old.items)))) }
+            (exprs_on (exprs_core arguments.now) (it.call (callee_core callee) ∷ self.old.items)))) }
     {
         self.agenda.push(Work::Call(callee))?;
         self.agenda.push_exprs(arguments)?;
@@ -161,7 +161,7 @@ impl<'p> Frame<'p> {
     ) -> Result<Outcome, Memory>
         ensures { IfOk result (λ r. HasPlanned self.old self.new r
             (it.expr (expr_core value.now) ∷ it.expr (c.read (left_core left)) ∷ it.op_left at op
-                ∷ it.put (left_core left) ∷ self.old.items)) }
+            ∷ it.put (left_core left) ∷ self.old.items)) }
     {
         self.agenda.push(Work::Put(left))?;
         self.agenda.push(Work::OpLeft(at, op))?;
@@ -194,7 +194,7 @@ impl<'p> Frame<'p> {
     ) -> Result<Outcome, Memory>
         ensures { IfOk result (λ r. HasPlanned self.old self.new r
             (stmts_on (stmts_core start.now)
-                (for_test_of condition.now step.now body.now ∷ self.old.items))) }
+            (for_test_of condition.now step.now body.now ∷ self.old.items))) }
     {
         self.agenda.push(Work::ForTest(condition, step, body))?;
         self.agenda.push_stmts(start)?;
@@ -262,7 +262,7 @@ impl<'p> Frame<'p> {
     ) -> Result<Outcome, Memory>
         ensures { IfOk result (λ r. HasDone self.old self.new r
             (spec.again (stmts_on (stmts_core body.now) (stmts_on (stmts_core step.now)
-                (for_test_of condition.now step.now body.now ∷ self.old.items))) self.old)) }
+            (for_test_of condition.now step.now body.now ∷ self.old.items))) self.old)) }
     {
         if is_true(self.values.take()) {
             self.agenda.push(Work::ForTest(condition, step, body))?;
