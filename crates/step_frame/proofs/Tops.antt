@@ -1,10 +1,10 @@
 -- The top of a stack, by its place in the list in which it is kept.
-use Rattle.std.proofs.Common.{◌≡◌, ℕ, ◌-◌, ◌<◌, Bool, false, List, [], ◌∷◌, ◌++◌, Option, Some, None, length, reverse, get_or, set, refl, ap, sym, ◌∙◌, length-append, arith}
+use Rattle.std.proofs.Common.{◌≡◌, ℕ, ◌+◌, ◌-◌, ◌<◌, Bool, false, cond, List, [], ◌∷◌, ◌++◌, Option, Some, None, length, reverse, get_or, set, refl, ap, sym, ◌∙◌, length-append, arith}
 use Rattle.std.proofs.Math.Seq.{set-append_seam, get_or-append_seam}
 use Rattle.std.proofs.lemmas.Grind.{reverse_onto}
 use Rattle.std.proofs.lemmas.List.{reverse-append, reverse-reverse, length-reverse}
 use Rattle.step_machine.specs.declared.datum.Datum.{Datum}
-use Rattle.step_machine.specs.Frame.{Frame, pushed}
+use Rattle.step_machine.specs.Frame.{Frame, pushed, depth_of}
 use Rattle.step_machine.specs.Turn.{handed}
 use Rattle.step_frame.specs.declared.work.Work.{Work}
 use Rattle.step_frame.specs.Works.{item_of}
@@ -59,3 +59,14 @@ taken_by xs (y ∷ ys) f g (Some w) p h t e =
 pub taken : (xs : List Frame) (f g : Frame) (o : Option Work) → 0 < length xs → f ≡ get_or xs (length xs - 1) f → Took f g o
     → IsTaken (reverse xs) (reverse (set xs (length xs - 1) g)) o
 taken xs f g o p h t = taken_by xs (reverse xs) f g o p h t refl
+
+-- another frame on top that counts as the one before does
+recounted_by : (xs top : List Frame) (f g : Frame) → 0 < length xs → f ≡ get_or xs (length xs - 1) f → g.is_generated ≡ f.is_generated → reverse xs ≡ top
+    → depth_of (reverse (set xs (length xs - 1) g)) ≡ depth_of top
+recounted_by xs [] f g p h t e = let n = none xs e in absurd (omega arith)
+recounted_by xs (y ∷ ys) f g p h t e =
+    ap depth_of (top_set xs ys y g e) ∙ ap (λ b. cond b (depth_of ys) (depth_of ys + 1)) (t ∙ ap (λ (x : Frame). x.is_generated) (top_is xs ys y f e h))
+
+pub recounted : (xs : List Frame) (f g : Frame) → 0 < length xs → f ≡ get_or xs (length xs - 1) f → g.is_generated ≡ f.is_generated
+    → depth_of (reverse (set xs (length xs - 1) g)) ≡ depth_of (reverse xs)
+recounted xs f g p h t = recounted_by xs (reverse xs) f g p h t refl

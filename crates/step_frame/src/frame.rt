@@ -1,7 +1,7 @@
 //! The run of a function.
 
 ghost use Rattle.std.specs.Prelude.{◌≡◌, Some, IfOk, OnOk};
-ghost use Rattle.step_machine.specs.Frame.{pushed};
+ghost use Rattle.step_machine.specs.Frame.{pushed, depth_of};
 ghost use Rattle.step_machine.specs.Turn.{handed};
 ghost use Rattle.step_frame.specs.Threads.{Took, IsTaken};
 
@@ -58,7 +58,8 @@ impl<'p> Model for Frame<'p> {
 impl<'p> Frame<'p> {
     /// Gives it a value.
     fn give(&mut self, datum: Datum) -> Result<(), Memory>
-        ensures { OnOk result (self.new ≡ pushed datum self.old) }
+        ensures given { OnOk result (self.new ≡ pushed datum self.old) }
+        ensures counts { self.new.is_generated ≡ self.old.is_generated }
     {
         self.values.push(datum)?;
         Ok(())
@@ -66,7 +67,8 @@ impl<'p> Frame<'p> {
 
     /// Takes its first item, if it has one.
     fn take_work(&mut self) -> Result<Option<Work<'p>>, Memory>
-        ensures { IfOk result (λ taken. Took self.old self.new taken) }
+        ensures taken { IfOk result (λ taken. Took self.old self.new taken) }
+        ensures counts { self.new.is_generated ≡ self.old.is_generated }
     {
         self.agenda.pop()
     }
@@ -74,24 +76,26 @@ impl<'p> Frame<'p> {
 
 impl<'p> Stack<Frame<'p>> {
     /// Gives a value to the frame on top, if there is one.
-    #[tactic(auto, using(crate::proofs::Tops::given))]
     pub(crate) fn give(&mut self, datum: Datum) -> Result<(), Memory>
-        ensures { OnOk result (self.new ≡ handed (Some datum) self.old) }
+        ensures given { OnOk result (self.new ≡ handed (Some datum) self.old) }
+        ensures counts { depth_of self.new ≡ depth_of self.old }
     {
-        match self.items.last_mut() {
-            None => Ok(()),
-            Some(frame) => frame.give(datum),
+        let count = self.items.len();
+        if count == 0 {
+            return Ok(());
         }
+        self.items[count - 1].give(datum)
     }
 
     /// Takes the first item of the frame on top, if it has one.
-    #[tactic(auto, using(crate::proofs::Tops::taken))]
     pub(crate) fn take_work(&mut self) -> Result<Option<Work<'p>>, Memory>
-        ensures { IfOk result (λ taken. IsTaken self.old self.new taken) }
+        ensures taken { IfOk result (λ taken. IsTaken self.old self.new taken) }
+        ensures counts { depth_of self.new ≡ depth_of self.old }
     {
-        match self.items.last_mut() {
-            None => Ok(None),
-            Some(frame) => frame.take_work(),
+        let count = self.items.len();
+        if count == 0 {
+            return Ok(None);
         }
+        self.items[count - 1].take_work()
     }
 }

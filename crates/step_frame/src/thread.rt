@@ -49,7 +49,6 @@ impl<'p> Thread<'p> {
     }
 
     /// Puts a frame on top, which runs from now on.
-    #[tactic(auto, using(crate::proofs::Depths::depth_most))]
     pub fn push(&mut self, frame: Frame<'p>) -> Result<(), Memory>
         ensures { OnOk result (self.new ≡ frame.entry ∷ self.old) }
     {
@@ -63,7 +62,6 @@ impl<'p> Thread<'p> {
     }
 
     /// Gives a value to the frame that runs, if there is one.
-    #[tactic(auto, using(crate::proofs::Depths::depth_given))]
     pub fn give(&mut self, datum: Datum) -> Result<(), Memory>
         ensures { OnOk result (self.new ≡ handed (Some datum) self.old) }
     {
@@ -71,7 +69,6 @@ impl<'p> Thread<'p> {
     }
 
     /// Takes the first item of the frame that runs, if it has one.
-    #[tactic(auto, using(crate::proofs::Depths::depth_taken))]
     pub fn take_work(&mut self) -> Result<Option<Work<'p>>, Memory>
         ensures { IfOk result (λ taken. IsTaken self.old self.new taken) }
     {
