@@ -1,5 +1,5 @@
 -- The top of a stack, by its place in the list in which it is kept.
-use Rattle.std.proofs.Common.{◌≡◌, ℕ, ◌+◌, ◌-◌, ◌<◌, Bool, false, cond, List, [], ◌∷◌, ◌++◌, Option, Some, None, length, reverse, get_or, set, refl, ap, sym, ◌∙◌, length-append, arith}
+use Rattle.std.proofs.Common.{◌≡◌, ℕ, ◌+◌, ◌-◌, ◌<◌, Bool, false, cond, List, [], ◌∷◌, ◌++◌, Option, Some, None, Result, Ok, Err, IfOk, OnOk, subst, length, reverse, get_or, set, refl, ap, sym, ◌∙◌, length-append, arith}
 use Rattle.std.proofs.Math.Seq.{set-append_seam, get_or-append_seam}
 use Rattle.std.proofs.lemmas.Grind.{reverse_onto}
 use Rattle.std.proofs.lemmas.List.{reverse-append, reverse-reverse, length-reverse}
@@ -40,10 +40,12 @@ given_by : (xs top : List Frame) (v : Datum) (f : Frame) → 0 < length xs → f
 given_by xs [] v f p h e = let n = none xs e in absurd (omega arith)
 given_by xs (y ∷ ys) v f p h e = top_set xs ys y (pushed v f) e ∙ ap (λ g. pushed v g ∷ ys) (top_is xs ys y f e h)
 
--- the frame on top gets a value
-pub given : (xs : List Frame) (v : Datum) (f : Frame) → 0 < length xs → f ≡ get_or xs (length xs - 1) f
-    → reverse (set xs (length xs - 1) (pushed v f)) ≡ handed (Some v) (reverse xs)
-given xs v f p h = given_by xs (reverse xs) v f p h refl
+-- the frame on top, of so many, gets a value
+pub given_ok : {A E : Type 0} (r : Result A E) (xs top : List Frame) (n : ℕ) (v : Datum) (f g : Frame) → n ≡ length xs → 0 < length xs → f ≡ get_or xs (n - 1) f
+    → OnOk r (g ≡ pushed v f) → reverse xs ≡ top → OnOk r (reverse (set xs (n - 1) g) ≡ handed (Some v) top)
+given_ok (Ok a) xs top n v f g e p h i t =
+    ap (λ m. reverse (set xs (m - 1) g)) e ∙ ap (λ x. reverse (set xs (length xs - 1) x)) i ∙ given_by xs top v f p (h ∙ ap (λ m. get_or xs (m - 1) f) e) t
+given_ok (Err e) xs top n v f g k p h i t = tt
 
 taken_by : (xs top : List Frame) (f g : Frame) (taken : Option Work) → 0 < length xs → f ≡ get_or xs (length xs - 1) f → Took f g taken → reverse xs ≡ top
     → IsTaken top (reverse (set xs (length xs - 1) g)) taken
@@ -55,10 +57,12 @@ taken_by xs (y ∷ ys) f g (Some w) p h t e =
     let i : f ≡ y = top_is xs ys y f e h in
     ap (λ x. x ∷ ys) (sym i ∙ t) ∙ sym (ap (with_item (item_of w)) (top_set xs ys y g e))
 
--- the first item of the frame on top is taken
-pub taken : (xs : List Frame) (f g : Frame) (o : Option Work) → 0 < length xs → f ≡ get_or xs (length xs - 1) f → Took f g o
-    → IsTaken (reverse xs) (reverse (set xs (length xs - 1) g)) o
-taken xs f g o p h t = taken_by xs (reverse xs) f g o p h t refl
+-- the first item of the frame on top, of so many, is taken
+pub taken_ok : {E : Type 0} (r : Result (Option Work) E) (xs top : List Frame) (n : ℕ) (f g : Frame) → n ≡ length xs → 0 < length xs → f ≡ get_or xs (n - 1) f
+    → IfOk r (λ o. Took f g o) → reverse xs ≡ top → IfOk r (λ o. IsTaken top (reverse (set xs (n - 1) g)) o)
+taken_ok (Ok o) xs top n f g e p h i t =
+    subst (λ m. IsTaken top (reverse (set xs (m - 1) g)) o) (sym e) (taken_by xs top f g o p (h ∙ ap (λ m. get_or xs (m - 1) f) e) i t)
+taken_ok (Err e) xs top n f g k p h i t = tt
 
 -- another frame on top that counts as the one before does
 recounted_by : (xs top : List Frame) (f g : Frame) → 0 < length xs → f ≡ get_or xs (length xs - 1) f → g.is_generated ≡ f.is_generated → reverse xs ≡ top
@@ -67,6 +71,7 @@ recounted_by xs [] f g p h t e = let n = none xs e in absurd (omega arith)
 recounted_by xs (y ∷ ys) f g p h t e =
     ap depth_of (top_set xs ys y g e) ∙ ap (λ b. cond b (depth_of ys) (depth_of ys + 1)) (t ∙ ap (λ (x : Frame). x.is_generated) (top_is xs ys y f e h))
 
-pub recounted : (xs : List Frame) (f g : Frame) → 0 < length xs → f ≡ get_or xs (length xs - 1) f → g.is_generated ≡ f.is_generated
-    → depth_of (reverse (set xs (length xs - 1) g)) ≡ depth_of (reverse xs)
-recounted xs f g p h t = recounted_by xs (reverse xs) f g p h t refl
+pub recounted : (xs top : List Frame) (n : ℕ) (f g : Frame) → n ≡ length xs → 0 < length xs → f ≡ get_or xs (n - 1) f → g.is_generated ≡ f.is_generated → reverse xs ≡ top
+    → depth_of (reverse (set xs (n - 1) g)) ≡ depth_of top
+recounted xs top n f g e p h i t =
+    ap (λ m. depth_of (reverse (set xs (m - 1) g))) e ∙ recounted_by xs top f g p (h ∙ ap (λ m. get_or xs (m - 1) f) e) i t
