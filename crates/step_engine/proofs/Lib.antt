@@ -1,6 +1,7 @@
 mod Bindings
 mod ExitValues
 mod Offs
+mod Takes
 mod Starts
 mod Overs
 mod Makes

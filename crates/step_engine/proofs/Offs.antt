@@ -7,7 +7,8 @@ use Rattle.step_machine.specs.Item.{Item}
 use Rattle.step_frame.specs.declared.work.Work.{Work}
 use Rattle.step_frame.specs.Works.{item_of}
 use Rattle.step_machine.specs.Turn.{Threads, put_back}
-use Rattle.step_engine.specs.Turns.{has_items, are_some, acted, turn_taken}
+use Rattle.step_frame.specs.Threads.{has_items, are_some}
+use Rattle.step_engine.specs.Turns.{acted, turn_taken}
 use Rattle.step_machine.specs.Setting.{Setting}
 use Rattle.step_machine.specs.World.{World}
 use Rattle.step_machine.specs.Effects as on

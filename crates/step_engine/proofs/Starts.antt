@@ -1,21 +1,35 @@
 -- A world that gets the globals one by one is that of the start.
-use Rattle.std.proofs.Common.{◌≡◌, List, [], ◌∷◌, ◌++◌, Some, ap, sym, ◌∙◌}
+use Rattle.std.proofs.Common.{◌≡◌, ℕ, Bool, true, false, cond, List, [], ◌∷◌, ◌++◌, Some, refl, ap, sym, ◌∙◌}
+use Rattle.std.specs.Prelude.{is_some}
 use Rattle.std.proofs.lemmas.List.{append_assoc, append-nil}
+use Rattle.cxx_names.specs.Tables.{with_name}
 use Rattle.cxx_core.specs.CoreProgram as cp
 use Rattle.cxx_core.specs.CoreProgram.{CoreGlobal}
+use Rattle.step_machine.specs.declared.datum.Datum.{Datum}
+use Rattle.step_machine.specs.declared.datum.Datum.TheVariants as datum
+use Rattle.step_machine.specs.Entries.{entry}
 use Rattle.step_machine.specs.Setting.{Setting, word_count}
 use Rattle.step_machine.specs.World.{World, new_object}
 use Rattle.step_machine.specs.Start.{objects_of, variables_from, start_world}
 use Rattle.step_world.specs.Worlds.{empty_world}
-use Rattle.step_engine.specs.Starts.{with_global, with_globals}
+use Rattle.step_engine.specs.Starts.{with_variable, with_global, with_globals}
 
 abbrev both : Setting → World → List CoreGlobal → World
 both s w gs = record w { objects = w.objects ++ objects_of s gs; variables = variables_from w.variables gs }
 
+chosen : (b : Bool) (w : World) (vs : List (ℕ × Datum)) → cond b w (record w { variables = vs }) ≡ record w { variables = cond b w.variables vs }
+chosen true w vs = refl
+chosen false w vs = refl
+
+variable_is : (name : ℕ) (v : Datum) (w : World) → with_variable name v w ≡ record w { variables = with_name w.variables name v }
+variable_is name v w = chosen (is_some (entry w.variables name)) w (w.variables ++ (name, v) ∷ [])
+
 pub each : (s : Setting) (gs : List CoreGlobal) (w : World) → with_globals s gs w ≡ both s w gs
 each s [] w = ap (λ os. record w { objects = os }) (sym (append-nil w.objects))
-each s (cp.number name v ∷ gs) w = each s gs (with_global s (cp.number name v) w)
-each s (cp.pointer name class ∷ gs) w = each s gs (with_global s (cp.pointer name class) w)
+each s (cp.number name v ∷ gs) w =
+    each s gs (with_global s (cp.number name v) w) ∙ ap (λ x. both s x gs) (variable_is name (datum.Number v) w)
+each s (cp.pointer name class ∷ gs) w =
+    each s gs (with_global s (cp.pointer name class) w) ∙ ap (λ x. both s x gs) (variable_is name datum.Null w)
 each s (cp.object at name class arguments ∷ gs) w =
     each s gs (with_global s (cp.object at name class arguments) w)
     ∙ ap (λ os. record w { objects = os; variables = variables_from w.variables gs })

@@ -1,17 +1,18 @@
 -- What a run finds at its start, global by global.
-use Rattle.std.specs.Prelude.{ℕ, List, [], ◌∷◌, Some}
-use Rattle.cxx_names.specs.Tables.{with_name}
+use Rattle.std.specs.Prelude.{ℕ, List, [], ◌∷◌, ◌++◌, Some, is_some, if◌then◌else◌}
 use Rattle.cxx_core.specs.CoreProgram as cp
 use Rattle.cxx_core.specs.CoreProgram.{CoreGlobal}
 use Rattle.step_machine.specs.declared.datum.Datum.{Datum}
 use Rattle.step_machine.specs.declared.datum.Datum.TheVariants as datum
+use Rattle.step_machine.specs.Entries.{entry}
 use Rattle.step_machine.specs.Setting.{Setting, word_count}
 use Rattle.step_machine.specs.World.{World}
 use Rattle.step_world.specs.Worlds.{created}
 
 -- of several variables of one name the first counts
 abbrev pub with_variable : ℕ → Datum → World → World
-with_variable name v world = record world { variables = with_name world.variables name v }
+with_variable name v world =
+    if is_some (entry world.variables name) then world else record world { variables = world.variables ++ (name, v) ∷ [] }
 
 abbrev pub with_global : Setting → CoreGlobal → World → World
 with_global s (cp.number name v) world = with_variable name (datum.Number v) world

@@ -1,5 +1,5 @@
--- Whether a thread has something to do; what an item does and what a turn is, as functions that stay shut.
-use Rattle.std.specs.Prelude.{ℕ, Bool, true, false, List, [], ◌∷◌}
+-- What an item does and what a turn is, as functions that stay shut.
+use Rattle.std.specs.Prelude.{ℕ}
 use Rattle.step_machine.specs.Item.{Item}
 use Rattle.step_machine.specs.Frame.{Frame}
 use Rattle.step_machine.specs.Setting.{Setting}
@@ -8,14 +8,6 @@ use Rattle.step_machine.specs.Effects.{Did, did}
 use Rattle.step_machine.specs.Act.{act}
 use Rattle.step_machine.specs.Turn.{Threads}
 use Rattle.step_machine.specs.Machine.{Turned, reads_of, turned}
-
-abbrev pub are_some : List Item → Bool
-are_some [] = false
-are_some (i ∷ is) = true
-
-abbrev pub has_items : List Frame → Bool
-has_items [] = false
-has_items (f ∷ fs) = are_some f.items
 
 -- what an item does that was taken off a frame of thread t
 unfoldable pub acted : Setting → World → Threads → ℕ → Item → Frame → Did

@@ -12,7 +12,7 @@ ghost use Rattle.step_frame.specs.Works.{ending_of, number_of};
 ghost use Rattle.step_engine.specs.Effects.{effect_of};
 
 use crate::effect::Effect;
-use agxx_base::{FnId, Memory, ObjectId, Place};
+use agxx_base::{DEPTH_LIMIT, FnId, Memory, ObjectId, Place};
 use cxx_core::{Function, FunctionKind, Param};
 use cxx_names::ValueType;
 use std::alloc::Global;
@@ -20,9 +20,6 @@ use step_frame::{Agenda, Ending, Frame, Stack, Work, converted, object_of};
 use step_machine::{Datum, Stop};
 use step_setting::Setting;
 use step_world::{Change, Entries};
-
-/// How many counted frames a thread may have.
-const DEPTH_LIMIT: usize = 200;
 
 /// A function that is to be entered, on an object if on any.
 #[derive(Clone, Copy)]
@@ -141,7 +138,7 @@ pub(crate) fn has_room(setting: &Setting, depth: usize, number: FnId, frame: &Fr
 
 /// Whether there may be one more counted frame on top of the running one.
 fn has_depth(frame: &Frame, depth: usize) -> bool
-    ensures { result ≡ nat_lt (depth_with frame.now depth) 200 }
+    ensures { result ≡ nat_lt (depth_with frame.now depth) DEPTH_LIMIT }
 {
     if frame.is_generated {
         depth < DEPTH_LIMIT

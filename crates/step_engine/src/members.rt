@@ -11,7 +11,7 @@ ghost use Rattle.step_frame.specs.Works.{number_of};
 ghost use Rattle.step_engine.specs.Effects.{effect_of};
 
 use crate::effect::Effect;
-use agxx_base::{Memory, NumKind, ObjectId, Place};
+use agxx_base::{Memory, NumKind, OUTPUT_LIMIT, ObjectId, Place};
 use cxx_arith::{Value, number};
 use cxx_core::{Left, Member, Object, Variable};
 use itoa::Buffer;
@@ -19,9 +19,6 @@ use step_frame::{Frame, as_number, bits_of, converted, object_of};
 use step_machine::{Datum, Stop};
 use step_setting::Setting;
 use step_world::{Change, Heap, World};
-
-/// How many bytes a run may print.
-const OUTPUT_LIMIT: usize = 16_777_216;
 
 /// The value of a variable.
 fn variable_now<H: Heap>(world: &World<H>, frame: &Frame, variable: Variable) -> Datum
@@ -171,7 +168,7 @@ pub(crate) fn put<'p, H: Heap>(
 
 /// Whether so many more bytes may be printed.
 fn has_output(printed: usize, more: usize) -> bool
-    ensures { result ≡ nat_le (printed + more) spec.output_limit }
+    ensures { result ≡ nat_le (printed + more) OUTPUT_LIMIT }
 {
     printed <= OUTPUT_LIMIT && more <= OUTPUT_LIMIT - printed
 }

@@ -12,16 +12,13 @@ ghost use Rattle.step_engine.specs.Effects.{effect_of};
 
 use crate::effect::{Effect, local};
 use crate::enter::{Entry, destruct, enter_on, frame_of, has_room, take_arguments};
-use agxx_base::{ClassId, FnId, Memory, ObjectId, Place};
+use agxx_base::{ClassId, FnId, Memory, OBJECT_LIMIT, ObjectId, Place};
 use cxx_core::{Expr, Function};
 use std::alloc::Global;
 use step_frame::{Ending, Frame, Thread, Work, any_on, object_of};
 use step_machine::{Datum, Stop};
 use step_setting::Setting;
 use step_world::{Change, Heap, World};
-
-/// How many objects may be made.
-const OBJECT_LIMIT: usize = 65_536;
 
 /// Constructs a global object, whose arguments are the last values.
 pub(crate) fn build<'p, H: Heap>(

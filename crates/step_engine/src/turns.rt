@@ -5,7 +5,8 @@ ghost use Rattle.step_machine.specs.Machine.{taken_off, put_at};
 ghost use Rattle.step_machine.specs.Turn.{handed, settled, put_back};
 ghost use Rattle.step_frame.specs.Works.{item_of};
 ghost use Rattle.step_engine.specs.Effects.{effect_of, turn_of};
-ghost use Rattle.step_engine.specs.Turns.{has_items, turn_taken};
+ghost use Rattle.step_frame.specs.Threads.{has_items};
+ghost use Rattle.step_engine.specs.Turns.{turn_taken};
 
 use crate::act::act;
 use crate::effect::{Effect, Turn};
@@ -23,14 +24,7 @@ fn hand<'p>(value: Option<Datum>, thread: &mut Thread<'p>) -> Result<(), Memory>
 {
     match value {
         None => Ok(()),
-        Some(datum) => match thread.pop() {
-            None => Ok(()),
-            Some(mut frame) => {
-                frame.values.push(datum)?;
-                thread.push(frame)?;
-                Ok(())
-            }
-        },
+        Some(datum) => thread.give(datum),
     }
 }
 
@@ -100,18 +94,16 @@ fn settle<'p>(
 }
 
 /// Takes the running frame of a thread and its first item, if it has one.
+#[tactic(auto, using(crate::proofs::Takes::taken_none, crate::proofs::Takes::taken_some))]
 fn take<'p>(thread: &mut Thread<'p>) -> Result<Option<(Frame<'p>, Work<'p>)>, Memory>
     ensures { IfOk result (λ taken. MatchOption taken ((thread.new ≡ thread.old) × (has_items thread.old ≡ false)) (λ r. thread.old ≡ put_back (item_of r.1) r.0 ∷ thread.new)) }
 {
-    let Some(mut frame) = thread.pop() else {
-        return Ok(None);
-    };
-    match frame.agenda.pop()? {
-        None => {
-            thread.push(frame)?;
-            Ok(None)
-        }
-        Some(work) => Ok(Some((frame, work))),
+    match thread.take_work()? {
+        None => Ok(None),
+        Some(work) => match thread.pop() {
+            None => Ok(None),
+            Some(frame) => Ok(Some((frame, work))),
+        },
     }
 }
 
@@ -121,7 +113,8 @@ fn take_off<'p>(
     threads: &mut Vec<Thread<'p>>,
 ) -> Result<Option<(Frame<'p>, Work<'p>)>, Memory>
     requires { thread < length threads.old.items }
-    ensures { IfOk result (λ taken. MatchOption taken ((threads.new.items ≡ threads.old.items) × (taken_off thread threads.old.items ≡ None)) (λ r. taken_off thread threads.old.items ≡ Some (r.0, item_of r.1, threads.new.items))) }
+    ensures count { OnOk result (length threads.new.items ≡ length threads.old.items) }
+    ensures off { IfOk result (λ taken. MatchOption taken ((threads.new.items ≡ threads.old.items) × (taken_off thread threads.old.items ≡ None)) (λ r. taken_off thread threads.old.items ≡ Some (r.0, item_of r.1, threads.new.items))) }
 {
     match take(&mut threads[thread as usize])? {
         None => Ok(None),
@@ -170,9 +163,6 @@ pub(crate) fn turn<'p, H: Heap>(
                 work,
                 &mut frame,
             )?;
-            if thread as usize >= threads.len() {
-                return Err(Memory);
-            }
             put(thread, threads, inserted, work, frame, effect)
         }
     }

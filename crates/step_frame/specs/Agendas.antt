@@ -21,6 +21,10 @@ abbrev pub entries_on : List Entry → List Item
 entries_on [] = []
 entries_on (e ∷ es) = entry_on e (entries_on es)
 
+-- what is left to do before and after the next item was taken, if there is one
+abbrev pub IsNext : List Item → List Item → Option Work → Type 0
+IsNext old new next = MatchOption next ((old ≡ []) × (new ≡ [])) (λ w. old ≡ item_of w ∷ new)
+
 -- what was taken off an entry that stood on others, and what stands now
 abbrev pub IsFirst : Entry → List Entry → List Entry → Option Work → Type 0
 IsFirst e old new first =

@@ -2,3 +2,4 @@ pub mod Under
 pub mod Works
 pub mod Agendas
 pub mod Outcomes
+pub mod Threads

@@ -1,13 +1,13 @@
 //! What is left to do in a frame, in order.
 
-ghost use Rattle.std.specs.Prelude.{◌≡◌, [], ◌∷◌, map, OnOk, MatchOption, IfOk};
+ghost use Rattle.std.specs.Prelude.{◌≡◌, [], ◌∷◌, map, OnOk, IfOk};
 ghost use Rattle.cxx_core.specs.ExprView.{exprs_core};
 ghost use Rattle.cxx_core.specs.StmtView.{stmts_core, printed_core};
 ghost use Rattle.step_machine.specs.Item.{stmts_on, exprs_on, printed_on};
 ghost use Rattle.step_frame.specs.Works.{item_of};
 ghost use Rattle.std.specs.List.{list_any};
 ghost use Rattle.step_machine.specs.Inserted.{is_body_level_call};
-ghost use Rattle.step_frame.specs.Agendas.{entries_on, IsFirst, is_call, any_call};
+ghost use Rattle.step_frame.specs.Agendas.{entries_on, IsNext, IsFirst, is_call, any_call};
 ghost use Rattle.step_frame.specs.declared.agenda.Entry.TheVariants as entry;
 
 use crate::stack::Stack;
@@ -27,8 +27,8 @@ enum Entry<'p> {
     Printed(&'p [Printed]),
 }
 
-/// What is left to do, which contracts see as the list of its items, the next at the head. The statements of a block take
-/// one entry, however many they are.
+/// What is left to do, which contracts see as the list of its items, the next at the head. The
+/// statements of a block take one entry, however many they are.
 #[derive(Drop)]
 pub struct Agenda<'p> {
     entries: Stack<Entry<'p>>,
@@ -97,7 +97,7 @@ impl<'p> Agenda<'p> {
 
     /// Takes the next item, if there is one.
     pub fn pop(&mut self) -> Result<Option<Work<'p>>, Memory>
-        ensures { IfOk result (λ next. MatchOption next ((self.old ≡ []) × (self.new ≡ [])) (λ work. self.old ≡ item_of work ∷ self.new)) }
+        ensures { IfOk result (λ next. IsNext self.old self.new next) }
     {
         pop(&mut self.entries)
     }
@@ -139,7 +139,7 @@ fn any_call(entries: &Stack<Entry<'_>>, setting: &Setting) -> bool
 
 /// Takes the next item off entries.
 fn pop<'p>(entries: &mut Stack<Entry<'p>>) -> Result<Option<Work<'p>>, Memory>
-    ensures { IfOk result (λ next. MatchOption next ((entries_on entries.old ≡ []) × (entries_on entries.new ≡ [])) (λ work. entries_on entries.old ≡ item_of work ∷ entries_on entries.new)) }
+    ensures { IfOk result (λ next. IsNext (entries_on entries.old) (entries_on entries.new) next) }
 {
     while let Some(entry) = entries.pop() {
         if let Some(work) = first_of(entries, entry)? {

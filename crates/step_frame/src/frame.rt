@@ -1,8 +1,14 @@
 //! The run of a function.
 
+ghost use Rattle.std.specs.Prelude.{◌≡◌, Some, IfOk, OnOk};
+ghost use Rattle.step_machine.specs.Frame.{pushed, depth_of};
+ghost use Rattle.step_machine.specs.Turn.{handed};
+ghost use Rattle.step_frame.specs.Threads.{Took, IsTaken};
+
 use crate::agenda::Agenda;
 use crate::stack::Stack;
-use agxx_base::{FnId, ObjectId};
+use crate::work::Work;
+use agxx_base::{FnId, Memory, ObjectId};
 use std::marker::Model;
 use step_machine::Datum;
 use step_world::Entries;
@@ -47,4 +53,49 @@ impl<'p> Model for Frame<'p> {
       kept = frame.kept;
       items = frame.agenda;
     } };
+}
+
+impl<'p> Frame<'p> {
+    /// Gives it a value.
+    fn give(&mut self, datum: Datum) -> Result<(), Memory>
+        ensures given { OnOk result (self.new ≡ pushed datum self.old) }
+        ensures counts { self.new.is_generated ≡ self.old.is_generated }
+    {
+        self.values.push(datum)?;
+        Ok(())
+    }
+
+    /// Takes its first item, if it has one.
+    fn take_work(&mut self) -> Result<Option<Work<'p>>, Memory>
+        ensures taken { IfOk result (λ taken. Took self.old self.new taken) }
+        ensures counts { self.new.is_generated ≡ self.old.is_generated }
+    {
+        self.agenda.pop()
+    }
+}
+
+impl<'p> Stack<Frame<'p>> {
+    /// Gives a value to the frame on top, if there is one.
+    pub(crate) fn give(&mut self, datum: Datum) -> Result<(), Memory>
+        ensures given { OnOk result (self.new ≡ handed (Some datum) self.old) }
+        ensures counts { depth_of self.new ≡ depth_of self.old }
+    {
+        let count = self.items.len();
+        if count == 0 {
+            return Ok(());
+        }
+        self.items[count - 1].give(datum)
+    }
+
+    /// Takes the first item of the frame on top, if it has one.
+    pub(crate) fn take_work(&mut self) -> Result<Option<Work<'p>>, Memory>
+        ensures taken { IfOk result (λ taken. IsTaken self.old self.new taken) }
+        ensures counts { depth_of self.new ≡ depth_of self.old }
+    {
+        let count = self.items.len();
+        if count == 0 {
+            return Ok(None);
+        }
+        self.items[count - 1].take_work()
+    }
 }

@@ -1,6 +1,6 @@
 //! A stack.
 
-ghost use Rattle.std.specs.Prelude.{◌≡◌, [], ◌∷◌, reverse, ◌↔◌, IsTrue, OnOk, OnErr, MatchOption};
+ghost use Rattle.std.specs.Prelude.{◌≡◌, [], ◌∷◌, length, reverse, ◌↔◌, IsTrue, OnOk, OnErr, MatchOption};
 ghost use Rattle.step_machine.specs.Data.{first, rest};
 ghost use Rattle.step_frame.specs.Under.{under};
 
@@ -13,7 +13,7 @@ use step_machine::Datum;
 /// A stack, which contracts see as a list whose head is the top.
 #[derive(Drop)]
 pub struct Stack<T> {
-    items: Vec<T>,
+    pub(crate) items: Vec<T>,
 }
 
 impl<T> Model for Stack<T> {
@@ -42,6 +42,13 @@ impl<T> Stack<T> {
         ensures { IsTrue result ↔ (self.now ≡ []) }
     {
         self.items.is_empty()
+    }
+
+    /// How many items there are.
+    pub fn len(&self) -> usize
+        ensures { result ≡ length self.now }
+    {
+        self.items.len()
     }
 
     /// From the lowest to the top.

@@ -1,17 +1,20 @@
 //! The frames of a thread.
 
-ghost use Rattle.std.specs.Prelude.{◌≡◌, [], ◌∷◌, IfOk, OnOk, MatchOption};
-ghost use Rattle.step_machine.specs.Frame.{is_object, is_on, are_on, any_on, depth_of, depth_with};
-ghost use Rattle.step_machine.specs.Turn.{has_ended};
+ghost use Rattle.std.specs.Prelude.{◌≡◌, ◌+◌, ◌<◌, [], ◌∷◌, Some, IfOk, OnOk, MatchOption};
+ghost use Rattle.step_machine.specs.Frame.{is_object, is_on, are_on, any_on, depth_of};
+ghost use Rattle.step_machine.specs.Turn.{handed, has_ended};
+ghost use Rattle.step_frame.specs.Threads.{IsTaken};
 
 use crate::frame::Frame;
 use crate::stack::Stack;
+use crate::work::Work;
 use agxx_base::{Memory, ObjectId};
 use std::alloc::Global;
 use std::marker::Model;
+use step_machine::Datum;
 
-/// The frames of a thread, which contracts see as a list with the frame that runs at the head. A thread without frames has
-/// ended.
+/// The frames of a thread, which contracts see as a list with the frame that runs at the head. A
+/// thread without frames has ended.
 #[derive(Drop)]
 pub struct Thread<'p> {
     frames: Stack<Frame<'p>>,
@@ -49,10 +52,27 @@ impl<'p> Thread<'p> {
     pub fn push(&mut self, frame: Frame<'p>) -> Result<(), Memory>
         ensures { OnOk result (self.new ≡ frame.entry ∷ self.old) }
     {
-        let depth = depth_with(&frame, self.depth)?;
+        let is_generated = frame.is_generated;
         self.frames.push(frame)?;
-        self.depth = depth;
+        if is_generated {
+            return Ok(());
+        }
+        self.depth = deeper(self.depth, self.frames.len());
         Ok(())
+    }
+
+    /// Gives a value to the frame that runs, if there is one.
+    pub fn give(&mut self, datum: Datum) -> Result<(), Memory>
+        ensures { OnOk result (self.new ≡ handed (Some datum) self.old) }
+    {
+        self.frames.give(datum)
+    }
+
+    /// Takes the first item of the frame that runs, if it has one.
+    pub fn take_work(&mut self) -> Result<Option<Work<'p>>, Memory>
+        ensures { IfOk result (λ taken. IsTaken self.old self.new taken) }
+    {
+        self.frames.take_work()
     }
 
     /// Takes the frame that runs, if there is one.
@@ -100,18 +120,12 @@ impl<'p> Thread<'p> {
     }
 }
 
-/// How many frames count toward the depth, with one more.
-fn depth_with(frame: &Frame, depth: usize) -> Result<usize, Memory>
-    ensures { IfOk result (λ r. r ≡ depth_with frame.now depth) }
+/// One frame more, where there are more frames than counted ones.
+fn deeper(depth: usize, frames: usize) -> usize
+    requires { depth < frames }
+    ensures { result ≡ depth + 1 }
 {
-    if frame.is_generated {
-        Ok(depth)
-    } else {
-        match depth.checked_add(1) {
-            None => Err(Memory),
-            Some(more) => Ok(more),
-        }
-    }
+    depth + 1
 }
 
 impl<'p> Frame<'p> {

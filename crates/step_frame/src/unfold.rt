@@ -3,17 +3,16 @@
 ghost use Rattle.std.specs.Prelude.{◌≡◌, ◌∷◌, IfOk, map, option_map};
 ghost use Rattle.std.specs.Option.{option_copied};
 ghost use Rattle.cxx_core.specs.CoreExpr as c;
-ghost use Rattle.cxx_core.specs.CoreStmt as cs;
 ghost use Rattle.cxx_core.specs.ExprView.{expr_core, exprs_core, left_core, callee_core, object_core};
 ghost use Rattle.cxx_core.specs.StmtView.{stmts_core, source_core, printed_core};
 ghost use Rattle.step_machine.specs.Act as act;
 ghost use Rattle.step_machine.specs.ActValues as spec;
-ghost use Rattle.step_machine.specs.Effects.{did, stays};
+ghost use Rattle.step_machine.specs.Effects.{stays};
 ghost use Rattle.step_machine.specs.Frame.{pushed};
 ghost use Rattle.step_machine.specs.Item as it;
 ghost use Rattle.step_machine.specs.Item.{stmts_on, exprs_on, printed_on};
-ghost use Rattle.step_frame.specs.Outcomes.{local_effect};
-ghost use Rattle.step_frame.specs.Works.{item_of};
+ghost use Rattle.step_frame.specs.Outcomes.{HasDone, HasPlanned};
+ghost use Rattle.step_frame.specs.Works.{item_of, while_of, for_test_of};
 
 use crate::data::{converted, is_true, or_zero, zero_of};
 use crate::frame::Frame;
@@ -35,7 +34,7 @@ impl<'p> Frame<'p> {
 
     /// A value that takes no further step.
     pub fn push_value(&mut self, datum: Datum) -> Result<Outcome, Memory>
-        ensures { IfOk result (λ r. (self.new, local_effect r) ≡ did self.old (stays (pushed datum self.old))) }
+        ensures { IfOk result (λ r. HasDone self.old self.new r (stays (pushed datum self.old))) }
     {
         self.values.push(datum)?;
         Ok(Outcome::Stays)
@@ -43,7 +42,8 @@ impl<'p> Frame<'p> {
 
     /// An operator of one operand, which is evaluated first.
     pub fn unary(&mut self, at: Place, op: UnOp, operand: &'p Expr) -> Result<Outcome, Memory>
-        ensures { IfOk result (λ r. (self.new, local_effect r) ≡ did self.old (spec.has (it.expr (expr_core operand.now) ∷ it.op_one at op ∷ self.old.items) self.old)) }
+        ensures { IfOk result (λ r. HasPlanned self.old self.new r
+            (it.expr (expr_core operand.now) ∷ it.op_one at op ∷ self.old.items)) }
     {
         self.agenda.push(Work::OpOne(at, op))?;
         self.agenda.push(Work::Expr(operand))?;
@@ -58,7 +58,8 @@ impl<'p> Frame<'p> {
         left: &'p Expr,
         right: &'p Expr,
     ) -> Result<Outcome, Memory>
-        ensures { IfOk result (λ r. (self.new, local_effect r) ≡ did self.old (spec.has (it.expr (expr_core left.now) ∷ it.expr (expr_core right.now) ∷ it.op_two at op ∷ self.old.items) self.old)) }
+        ensures { IfOk result (λ r. HasPlanned self.old self.new r
+            (it.expr (expr_core left.now) ∷ it.expr (expr_core right.now) ∷ it.op_two at op ∷ self.old.items)) }
     {
         self.agenda.push(Work::OpTwo(at, op))?;
         self.agenda.push(Work::Expr(right))?;
@@ -73,7 +74,8 @@ impl<'p> Frame<'p> {
         left: &'p Expr,
         right: &'p Expr,
     ) -> Result<Outcome, Memory>
-        ensures { IfOk result (λ r. (self.new, local_effect r) ≡ did self.old (spec.has (it.expr (expr_core left.now) ∷ it.short is_and (expr_core right.now) ∷ self.old.items) self.old)) }
+        ensures { IfOk result (λ r. HasPlanned self.old self.new r
+            (it.expr (expr_core left.now) ∷ it.short is_and (expr_core right.now) ∷ self.old.items)) }
     {
         self.agenda.push(Work::Short(is_and, right))?;
         self.agenda.push(Work::Expr(left))?;
@@ -82,7 +84,8 @@ impl<'p> Frame<'p> {
 
     /// An expression, and then one more item.
     pub fn evaluate(&mut self, value: &'p Expr, then: Work<'p>) -> Result<Outcome, Memory>
-        ensures { IfOk result (λ r. (self.new, local_effect r) ≡ did self.old (spec.has (it.expr (expr_core value.now) ∷ item_of then.entry ∷ self.old.items) self.old)) }
+        ensures { IfOk result (λ r. HasPlanned self.old self.new r
+            (it.expr (expr_core value.now) ∷ item_of then.entry ∷ self.old.items)) }
     {
         self.agenda.push(then)?;
         self.agenda.push(Work::Expr(value))?;
@@ -91,7 +94,8 @@ impl<'p> Frame<'p> {
 
     /// Several expressions one after the other, and then one more item.
     pub fn evaluate_all(&mut self, values: &'p [Expr], then: Work<'p>) -> Result<Outcome, Memory>
-        ensures { IfOk result (λ r. (self.new, local_effect r) ≡ did self.old (spec.has (exprs_on (exprs_core values.now) (item_of then.entry ∷ self.old.items)) self.old)) }
+        ensures { IfOk result (λ r. HasPlanned self.old self.new r
+            (exprs_on (exprs_core values.now) (item_of then.entry ∷ self.old.items))) }
     {
         self.agenda.push(then)?;
         self.agenda.push_exprs(values)?;
@@ -100,7 +104,9 @@ impl<'p> Frame<'p> {
 
     /// A call, whose pointer and arguments are evaluated first.
     pub fn call(&mut self, callee: Callee, arguments: &'p [Expr]) -> Result<Outcome, Memory>
-        ensures { IfOk result (λ r. (self.new, local_effect r) ≡ did self.old (spec.has (act.pointer_on (option_map object_core callee.object) (exprs_on (exprs_core arguments.now) (it.call (callee_core callee) ∷ self.old.items))) self.old)) }
+        ensures { IfOk result (λ r. HasPlanned self.old self.new r
+            (act.pointer_on (option_map object_core callee.object)
+            (exprs_on (exprs_core arguments.now) (it.call (callee_core callee) ∷ self.old.items)))) }
     {
         self.agenda.push(Work::Call(callee))?;
         self.agenda.push_exprs(arguments)?;
@@ -114,7 +120,8 @@ impl<'p> Frame<'p> {
 
     /// The statements of a block.
     pub fn block(&mut self, body: &'p [Stmt]) -> Result<Outcome, Memory>
-        ensures { IfOk result (λ r. (self.new, local_effect r) ≡ did self.old (spec.has (stmts_on (stmts_core body.now) self.old.items) self.old)) }
+        ensures { IfOk result (λ r. HasPlanned self.old self.new r
+            (stmts_on (stmts_core body.now) self.old.items)) }
     {
         self.agenda.push_stmts(body)?;
         Ok(Outcome::Stays)
@@ -127,7 +134,8 @@ impl<'p> Frame<'p> {
         value_type: ValueType,
         source: Option<&'p Source>,
     ) -> Result<Outcome, Memory>
-        ensures { IfOk result (λ r. (self.new, local_effect r) ≡ did self.old (act.declare name.0 value_type (option_map source_core (option_copied source.entry)) self.old)) }
+        ensures { IfOk result (λ r. HasDone self.old self.new r
+            (act.declare name.0 value_type (option_map source_core (option_copied source.entry)) self.old)) }
     {
         match source {
             None => {
@@ -151,7 +159,9 @@ impl<'p> Frame<'p> {
         left: Left,
         value: &'p Expr,
     ) -> Result<Outcome, Memory>
-        ensures { IfOk result (λ r. (self.new, local_effect r) ≡ did self.old (spec.has (it.expr (expr_core value.now) ∷ it.expr (c.read (left_core left)) ∷ it.op_left at op ∷ it.put (left_core left) ∷ self.old.items) self.old)) }
+        ensures { IfOk result (λ r. HasPlanned self.old self.new r
+            (it.expr (expr_core value.now) ∷ it.expr (c.read (left_core left)) ∷ it.op_left at op
+            ∷ it.put (left_core left) ∷ self.old.items)) }
     {
         self.agenda.push(Work::Put(left))?;
         self.agenda.push(Work::OpLeft(at, op))?;
@@ -162,7 +172,8 @@ impl<'p> Frame<'p> {
 
     /// A call as a statement, whose value is dropped where it has one.
     pub fn run(&mut self, call: &'p Expr) -> Result<Outcome, Memory>
-        ensures { IfOk result (λ r. (self.new, local_effect r) ≡ did self.old (spec.has (it.expr (expr_core call.now) ∷ act.drop_on (c.type_of (expr_core call.now)) self.old.items) self.old)) }
+        ensures { IfOk result (λ r. HasPlanned self.old self.new r
+            (it.expr (expr_core call.now) ∷ act.drop_on (c.type_of (expr_core call.now)) self.old.items)) }
     {
         match type_of(call) {
             None => {
@@ -181,7 +192,9 @@ impl<'p> Frame<'p> {
         step: &'p [Stmt],
         body: &'p [Stmt],
     ) -> Result<Outcome, Memory>
-        ensures { IfOk result (λ r. (self.new, local_effect r) ≡ did self.old (spec.has (stmts_on (stmts_core start.now) (it.for_test (expr_core condition.now) (stmts_core step.now) (stmts_core body.now) ∷ self.old.items)) self.old)) }
+        ensures { IfOk result (λ r. HasPlanned self.old self.new r
+            (stmts_on (stmts_core start.now)
+            (for_test_of condition.now step.now body.now ∷ self.old.items))) }
     {
         self.agenda.push(Work::ForTest(condition, step, body))?;
         self.agenda.push_stmts(start)?;
@@ -190,7 +203,7 @@ impl<'p> Frame<'p> {
 
     /// `return;`
     pub fn leave_next(&mut self, at: Place) -> Result<Outcome, Memory>
-        ensures { IfOk result (λ r. (self.new, local_effect r) ≡ did self.old (spec.has (it.leave at ∷ self.old.items) self.old)) }
+        ensures { IfOk result (λ r. HasPlanned self.old self.new r (it.leave at ∷ self.old.items)) }
     {
         self.agenda.push(Work::Leave(at))?;
         Ok(Outcome::Stays)
@@ -203,7 +216,8 @@ impl<'p> Frame<'p> {
         value_type: ValueType,
         source: &'p Source,
     ) -> Result<Outcome, Memory>
-        ensures { IfOk result (λ r. (self.new, local_effect r) ≡ did self.old (act.returned at value_type (source_core source.now) self.old)) }
+        ensures { IfOk result (λ r. HasDone self.old self.new r
+            (act.returned at value_type (source_core source.now) self.old)) }
     {
         self.agenda.push(Work::Leave(at))?;
         match source {
@@ -218,7 +232,8 @@ impl<'p> Frame<'p> {
 
     /// The operands of a print.
     pub fn print(&mut self, operands: &'p [Printed]) -> Result<Outcome, Memory>
-        ensures { IfOk result (λ r. (self.new, local_effect r) ≡ did self.old (spec.has (printed_on (map printed_core operands.now) self.old.items) self.old)) }
+        ensures { IfOk result (λ r. HasPlanned self.old self.new r
+            (printed_on (map printed_core operands.now) self.old.items)) }
     {
         self.agenda.push_printed(operands)?;
         Ok(Outcome::Stays)
@@ -228,7 +243,8 @@ impl<'p> Frame<'p> {
 
     /// Once more the body of a `while`, where its condition is true.
     pub fn loop_while(&mut self, condition: &'p Expr, body: &'p [Stmt]) -> Result<Outcome, Memory>
-        ensures { IfOk result (λ r. (self.new, local_effect r) ≡ did self.old (spec.again (stmts_on (stmts_core body.now) (it.stmt (cs.while (expr_core condition.now) (stmts_core body.now)) ∷ self.old.items)) self.old)) }
+        ensures { IfOk result (λ r. HasDone self.old self.new r
+            (spec.again (stmts_on (stmts_core body.now) (while_of condition.now body.now ∷ self.old.items)) self.old)) }
     {
         if is_true(self.values.take()) {
             self.agenda.push(Work::While(condition, body))?;
@@ -244,7 +260,9 @@ impl<'p> Frame<'p> {
         step: &'p [Stmt],
         body: &'p [Stmt],
     ) -> Result<Outcome, Memory>
-        ensures { IfOk result (λ r. (self.new, local_effect r) ≡ did self.old (spec.again (stmts_on (stmts_core body.now) (stmts_on (stmts_core step.now) (it.for_test (expr_core condition.now) (stmts_core step.now) (stmts_core body.now) ∷ self.old.items))) self.old)) }
+        ensures { IfOk result (λ r. HasDone self.old self.new r
+            (spec.again (stmts_on (stmts_core body.now) (stmts_on (stmts_core step.now)
+            (for_test_of condition.now step.now body.now ∷ self.old.items))) self.old)) }
     {
         if is_true(self.values.take()) {
             self.agenda.push(Work::ForTest(condition, step, body))?;
