@@ -4,6 +4,7 @@
 #![tactic(auto)]
 
 mod command;
+mod parse;
 mod words;
 
 pub use command::{Call, Command, File, Kind};
