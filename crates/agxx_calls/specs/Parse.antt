@@ -1,5 +1,6 @@
 -- The commands as `clap` has them.
-use Rattle.std.specs.Prelude.{◌≢◌, ◌⊎◌, true, List, [], ◌∷◌, Option, Some, option_and_then, option_map, slice_get, codes}
+use Rattle.std.specs.Prelude.{◌≢◌, ◌⊎◌, true, List, [], ◌∷◌, Option, Some, option_and_then, option_map}
+use Rattle.std.specs.Prelude.{slice_get, codes}
 use Rattle.std.specs.Str.{IsUtf8}
 use Rattle.clap.specs.Words.{App, Row, Rule, Text, all_of, new_app, new_rule, with_rule, with_subcommand}
 use Rattle.clap.specs.declared.builder.action.ArgAction.TheVariants.{Append}
