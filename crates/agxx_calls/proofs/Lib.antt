@@ -1,1 +1,3 @@
 pub mod Meanings
+pub mod Parsed
+pub mod Refused

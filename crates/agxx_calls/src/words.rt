@@ -5,6 +5,7 @@ ghost use Rattle.agxx_calls.specs.Commands.{IsName, IsProgramName, IsPlanName, I
 ghost use Rattle.agxx_calls.specs.Commands.{files_of, IsMeant, IsNone, Means, HasCall, IsUsage};
 
 use crate::command::{COMMANDS, Call, Command, File, Kind};
+use crate::parse::is_command_line;
 use agxx_base::{ListOf, Memory, Text, Words};
 use std::alloc::Global;
 use std::str;
@@ -12,7 +13,7 @@ use std::str;
 /// The most bytes of a word that names a file.
 const LONGEST_NAME: usize = 255;
 
-fn is_no_option(word: &[u8]) -> bool
+pub(crate) fn is_no_option(word: &[u8]) -> bool
     ensures { IsTrue result ↔ (slice_get word.now 0 ≢ Some 45) }
 {
     match word.get(0) {
@@ -107,7 +108,8 @@ fn add_files(
     }
 }
 
-/// The command that words are, with its files, or none. Only where they are one is memory asked for.
+/// The command that words are, with its files, or none: `clap` reads them, and the rows decide on what it read. Where
+/// there is no memory for `clap`, words that are no command by the rows are told to be none.
 pub fn read_call(alloc: Global, words: &Words) -> Result<Option<Call>, Memory>
     ensures call { IfOk result (λ call. MatchOption call (IsUsage words.now) (Means words.now)) }
     ensures memory { OnErr result (HasCall words.now) }
@@ -115,9 +117,14 @@ pub fn read_call(alloc: Global, words: &Words) -> Result<Option<Call>, Memory>
     let [word, names @ ..] = words.as_slice() else {
         return Ok(None);
     };
+    let is_read = is_command_line(alloc, words.as_slice());
+    if let Ok(false) = is_read {
+        return Ok(None);
+    }
     match first_meant(COMMANDS, word.bytes(), names) {
         None => Ok(None),
         Some(command) => {
+            is_read?;
             let files = add_files(alloc, ListOf::new(alloc), command.kinds(), names)?;
             Ok(Some(Call { command, files }))
         }
