@@ -108,10 +108,25 @@ silent-says m r e form fs =
     let n8 : nat_eq (rank rule.N8) (rank r) ≡ false = apart 22 (rank r) e (omega arith) (omega arith) in
     let n9 : nat_eq (rank rule.N9) (rank r) ≡ false = apart 23 (rank r) e (omega arith) (omega arith) in
     let n10 : nat_eq (rank rule.N10) (rank r) ≡ false = apart 24 (rank r) e (omega arith) (omega arith) in
-    not-said r rule.N10 _ _ n10 ∙ (not-said r rule.N9 _ _ n9 ∙ (not-said r rule.N7 _ _ n7
-    ∙ (not-said r rule.N3 _ _ n3 ∙ (not-said r rule.N4 _ _ n4 ∙ (not-said r rule.N8 _ _ n8
-    ∙ (not-said r rule.N6 _ _ n6 ∙ (not-said r rule.N5 _ _ n5 ∙ (not-said r rule.N2 _ _ n2
-    ∙ (not-said r rule.N1 _ fs n1 ∙ sym (append-nil (at r fs)))))))))))
+    let f1 : List Refusal = told_by rule.N1 (unknown_name_at form) fs in
+    let f2 : List Refusal = told_by rule.N2 (declared_twice_at form) f1 in
+    let f5 : List Refusal = told_by rule.N5 (base_not_declared_before_at form) f2 in
+    let f6 : List Refusal = told_by rule.N6 (not_accessible_at form) f5 in
+    let f8 : List Refusal = told_by rule.N8 (not_allowed_here_at form) f6 in
+    let f4 : List Refusal = told_by rule.N4 (wrong_number_of_arguments_at form) f8 in
+    let f3 : List Refusal = told_by rule.N3 (types_disagree_at form) f4 in
+    let f7 : List Refusal = told_by rule.N7 (address_of_no_global_object_at form) f3 in
+    let f9 : List Refusal = told_by rule.N9 (no_main_at form) f7 in
+    not-said r rule.N10 (too_many_at m form) f9 n10
+    ∙ (not-said r rule.N9 (no_main_at form) f7 n9
+    ∙ (not-said r rule.N7 (address_of_no_global_object_at form) f3 n7
+    ∙ (not-said r rule.N3 (types_disagree_at form) f4 n3
+    ∙ (not-said r rule.N4 (wrong_number_of_arguments_at form) f8 n4
+    ∙ (not-said r rule.N8 (not_allowed_here_at form) f6 n8
+    ∙ (not-said r rule.N6 (not_accessible_at form) f5 n6
+    ∙ (not-said r rule.N5 (base_not_declared_before_at form) f2 n5
+    ∙ (not-said r rule.N2 (declared_twice_at form) f1 n2
+    ∙ (not-said r rule.N1 (unknown_name_at form) fs n1 ∙ sym (append-nil (at r fs)))))))))))
 
 pub silent-places : (forms : List Form) → places_in silent forms ≡ []
 silent-places [] = refl
