@@ -5,7 +5,7 @@ use Rattle.step_engine.specs.Turns.{acted}
 use Rattle.step_engine.proofs.Offs.{turned-ok}
 use Rattle.step_engine.proofs.turns.turn.Goals as goal
 
-pub returns-in_ok-effect-in-Some : goal.returns-in-Some
+pub returns-in_ok-effect-in-Some : goal.returns-in_ok-effect-in-Some
 returns-in_ok-effect-in-Some g c =
     turned-ok c.args.setting.now c.args.world.now c.args.thread c.args.threads.now.items c.take_off.new.threads.items c.put.new.threads.items c.in_ok-take_off.field-0 c.in-Some.frame c.in-Some.work
     c.is_inserted-inserted.result (c.act.new.frame, effect_of c.in_ok-effect-in-Some.effect) c.put.result
