@@ -14,7 +14,8 @@ use Rattle.cxx_parse.specs.Parsed.{IsParsed, IsReadAs}
 use Rattle.cxx_expr.specs.Outcome.{Outcome, done}
 use Rattle.cxx_expr.specs.Tokens.{Tokens}
 use Rattle.cxx_normal.specs.Normal.{with_main, normal_among}
-use Rattle.cxx_types.specs.Violations.{least, violations_of, refusal_of}
+use Rattle.agxx_base.specs.Refusals.{least}
+use Rattle.cxx_types.specs.Violations.{violations_of, refusal_of}
 use Rattle.cxx_lex.proofs.Readings.{one_reading, one_refusal, never_both}
 use Rattle.cxx_parse.proofs.Decided.{parsed-or-refused, never-both, alike, rule-of}
 use Rattle.agxx_main.specs.declared.answer.Answer.{Answer}
