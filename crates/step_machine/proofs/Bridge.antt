@@ -233,6 +233,6 @@ flip-by (Some bits) m o w bit = go (is_bit m.setting (class_at m.world o) w bit)
     go true = ap (λ x. (x, true)) (bits-told m o w (inverted bits bit))
     go false = refl
 
+pub flip-is : (m : Machine) (o w bit : ℕ) → (reading (flipped o w bit m).0, (flipped o w bit m).1) ≡ flipped_of o w bit (reading m)
 unfolding flipped flipped_of
-  pub flip-is : (m : Machine) (o w bit : ℕ) → (reading (flipped o w bit m).0, (flipped o w bit m).1) ≡ flipped_of o w bit (reading m)
-  flip-is m o w bit = flip-by (word_at m.world o w) m o w bit
+flip-is m o w bit = flip-by (word_at m.world o w) m o w bit
