@@ -1,0 +1,9 @@
+//! Laws of the machine.
+
+ghost use Rattle.machine_laws.specs.Locates.{WordsAreLocated};
+
+/// Says that the number of a word, and that of a mutex, tells the class that declares it and which one of that class
+/// it is.
+pub fn words_are_located()
+    ensures { WordsAreLocated }
+{}
