@@ -49,3 +49,12 @@ module _ {V : Type 0} where
       by : (b : Bool) → named (if b then es else es ++ (n, t) ∷ []) name ≡ Some v → IsOldOrNew (named es name) t v
       by true f = inl f
       by false f = named-one-more es n t name v f
+
+  none-old : (b : Bool) (first : V) (before after : Option V) → (before ≡ None → after ≡ None) → cond b (Some first) before ≡ None → cond b (Some first) after ≡ None
+  none-old true first before after later e = e
+  none-old false first before after later e = later e
+
+  -- a name that stands for nothing, where another is added
+  pub none-one-more : (es : List (ℕ × V)) (n : ℕ) (t : V) (name : ℕ) → named es name ≡ None → nat_eq name n ≡ false → named (es ++ (n, t) ∷ []) name ≡ None
+  none-one-more [] n t name e other = cond-false (nat_eq name n) _ _ other
+  none-one-more (x ∷ es) n t name e other = none-old (nat_eq name x.0) x.1 (named es name) (named (es ++ (n, t) ∷ []) name) (λ f. none-one-more es n t name f other) e

@@ -16,19 +16,19 @@ use Rattle.machine_laws.proofs.Bases.{has-bases}
 -- ---- one class below those that have a number
 
 module _ (a o : ℕ) (c : ClassId) (n : ℕ) (higher : Option Located) where
-  low : n < a → located_on a o c n higher ≡ higher
+  pub low : n < a → located_on a o c n higher ≡ higher
   low h = cond-true (nat_lt n a) _ _ (lt-ltb n a h)
 
-  here : a ≤ n → n < a + o → located_on a o c n higher ≡ Some (c, n - a)
+  pub here : a ≤ n → n < a + o → located_on a o c n higher ≡ Some (c, n - a)
   here h k = cond-false (nat_lt n a) _ _ (le-ltb n a h) ∙ cond-true (nat_lt n (a + o)) _ _ (lt-ltb n (a + o) k)
 
-  high : a + o ≤ n → located_on a o c n higher ≡ None
+  pub high : a + o ≤ n → located_on a o c n higher ≡ None
   high h = cond-false (nat_lt n a) _ _ (le-ltb n a (omega arith)) ∙ cond-false (nat_lt n (a + o)) _ _ (le-ltb n (a + o) h)
 
-  abbrev Where : Type 0
+  abbrev pub Where : Type 0
   Where = (n < a) ⊎ (((a ≤ n) × (n < a + o)) ⊎ (a + o ≤ n))
 
-  somewhere : Where
+  pub somewhere : Where
   somewhere = elim (cases_lt n a) [ inl h ↦ inl h | inr h ↦ inr (elim (cases_lt n (a + o)) [ inl k ↦ inl (h, k) | inr k ↦ inr k ]) ]
 
 -- ---- each class
@@ -43,16 +43,16 @@ module _ (of : CoreClass → ℕ) (s : Setting) where
   abbrev own : ClassId → ℕ
   own = own_count of s
 
+  pub locate-none : (class : Option ClassId) → line s class ≡ [] → (n : ℕ) → locate of s class n ≡ None
+  locate-none class z n = ap (λ l. located_in own l n) z
+
   without : (class : Option ClassId) → line s class ≡ [] → AtClass of s class
   without class z = record {
-    found = λ n p e. absurd (none-some p (sym (nothing n) ∙ e));
+    found = λ n p e. absurd (none-some p (sym (locate-none class z n) ∙ e));
     back = λ p at. let none : is_of s class (Some p.0) ≡ false = ap (stands_in (Some p.0)) z in let is = at.is_of in cc;
     each = λ n h. let zero_count : count of s class ≡ 0 = count-line of s class ∙ ap (sum_by own) z in absurd (omega arith);
-    no_other = λ n h. nothing n;
+    no_other = λ n h. locate-none class z n;
   }
-    where
-      nothing : (n : ℕ) → locate of s class n ≡ None
-      nothing n = ap (λ l. located_in own l n) z
 
   module _ (bases : HasBasesBefore s.program) (c : ClassId) (x : CoreClass) (e : class_at s c ≡ Some x) where
     abbrev a : ℕ
@@ -64,7 +64,7 @@ module _ (of : CoreClass → ℕ) (s : Setting) where
     above-is : above_count of s c ≡ a
     above-is = ap (above_by of s) e
 
-    locate-is : (n : ℕ) → locate of s (Some c) n ≡ located_on a (of x) c n (locate of s x.base n)
+    pub locate-is : (n : ℕ) → locate of s (Some c) n ≡ located_on a (of x) c n (locate of s x.base n)
     locate-is n =
         ap (λ l. located_in own l n) (line-of s bases c x e)
         ∙ ap (λ m. located_on m (own c) c n (locate of s x.base n)) (sym (count-line of s x.base))
