@@ -1,0 +1,6 @@
+pub mod Verdicts
+pub mod States
+pub mod Insides
+pub mod Counts
+pub mod CheckWords
+pub mod Example
