@@ -1,5 +1,5 @@
 -- The number of check words is the least that is large enough.
-use Rattle.std.proofs.Common.{◌≡◌, ◌≤◌, ◌<◌, ◌⊎◌, inl, inr, ◌×◌, ◌+◌, ◌^◌, ℕ, zero, suc, if◌then◌else◌, Bool, true, false, refl, sym, subst, arith}
+use Rattle.std.proofs.Common.{◌≡◌, ◌≤◌, ◌<◌, ◌⊎◌, inl, inr, ◌+◌, ◌^◌, ℕ, zero, suc, if◌then◌else◌, Bool, true, false, refl, sym, subst, arith}
 use Rattle.std.specs.Prelude.{nat_le}
 use Rattle.std.proofs.lemmas.Bool.Decides.{nat_tests, leb_tells}
 use native.Mathlib.Nat.{pow-suc}
@@ -37,13 +37,15 @@ from k zero r e least = record {
   enough = let is : suc k ≡ r = omega (arith, e) in subst (Enough k) is (enough-at k);
   least = least;
 }
-from k (suc n) r e least = go (nat_le (k + r + 1) (2 ^ r)) refl
+from k (suc n) r e least =
+    go (nat_le (k + r + 1) (2 ^ r)) refl
+    (λ q. from k n (suc r) (omega (arith, e)) (λ j h. least-next k r j (more-tells (k + r + 1) (2 ^ r) q) (least j h) h))
   where
-    go : (b : Bool) → nat_le (k + r + 1) (2 ^ r) ≡ b → IsCheckCount k (if b then r else check_words_from k n (suc r))
-    go true q = record { enough = le-tells (k + r + 1) (2 ^ r) q; least = least }
-    go false q =
-        from k n (suc r) (omega (arith, e))
-        (λ j h. least-next k r j (more-tells (k + r + 1) (2 ^ r) q) (least j h) h)
+    go : (b : Bool) → nat_le (k + r + 1) (2 ^ r) ≡ b
+        → (nat_le (k + r + 1) (2 ^ r) ≡ false → IsCheckCount k (check_words_from k n (suc r)))
+        → IsCheckCount k (if b then r else check_words_from k n (suc r))
+    go true q more = record { enough = le-tells (k + r + 1) (2 ^ r) q; least = least }
+    go false q more = more q
 
 pub check-words-are-least : CheckWordsAreLeast
 unfolding Enough

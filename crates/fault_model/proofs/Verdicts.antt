@@ -73,8 +73,12 @@ if-all : (cs : List Coming) → AreAdmissible cs → verdict_of cs ≡ Admissibl
 if-all [] h = refl
 if-all (c ∷ cs) h = ap (λ b. found b c cs) h.0 ∙ if-all cs h.1
 
+abbrev is-first : Verdict → Bool
+is-first Admissible = false
+is-first (First k) = true
+
 first-not-all : {k : ℕ} → First k ≡ Admissible → ⊥
-first-not-all e = elim e [ ]
+first-not-all e = cc (ap is-first e)
 
 only-all : (cs : List Coming) → verdict_of cs ≡ Admissible → AreAdmissible cs
 only-all [] h = tt

@@ -8,4 +8,3 @@ pub mod Exact
 pub mod Cost
 pub mod Comings
 pub mod Laws
-pub mod Example
