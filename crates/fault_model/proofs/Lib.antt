@@ -3,3 +3,4 @@ pub mod States
 pub mod Insides
 pub mod Counts
 pub mod CheckWords
+pub mod Example

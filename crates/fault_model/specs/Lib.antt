@@ -8,3 +8,4 @@ pub mod Exact
 pub mod Cost
 pub mod Comings
 pub mod Laws
+pub mod Example

@@ -1,5 +1,6 @@
 //! Laws of the fault model.
 
+ghost use Rattle.fault_model.specs.Example.{TwoThreadsRun};
 ghost use Rattle.fault_model.specs.Laws.{VerdictLooksBack, StateTellsFlips, InsideIsEmptied};
 ghost use Rattle.fault_model.specs.Laws.{ErasesSource, CheckWordsAreLeast};
 
@@ -28,4 +29,10 @@ pub fn erased_are_counted()
 /// The number of check words for some members is the least that is large enough.
 pub fn check_words_are_least()
     ensures { CheckWordsAreLeast }
+{}
+
+/// Of a program with a protected class and two threads: who is inside and engaged at ten moments, how many inserted steps
+/// each thread has taken in a row, which flips are admissible, and what plans come to.
+pub fn example_runs()
+    ensures { TwoThreadsRun }
 {}
