@@ -6,7 +6,7 @@ use Rattle.step_machine.specs.Runs.{Counts, counted}
 use Rattle.step_machine.specs.Total.{Total, next_of}
 use Rattle.step_machine.proofs.Same.{length-snoc}
 use Rattle.fault_model.specs.PlanLines.{PlanLine, FaultPlan}
-use Rattle.fault_model.specs.Progress.{Progress, falls, with_line, still_ahead, after_lines, after_flips, erased_by, at_moment, goes_on, passed, after_turns, before_first}
+use Rattle.fault_model.specs.Progress.{Progress, falls, with_line, still_ahead, after_lines, after_flips, erased_by, at_moment, is_running, passed, after_turns, before_first}
 use Rattle.fault_model.specs.Laws.{ErasesSource}
 
 append-none : (xs : List ℕ) → xs ++ [] ≡ xs
@@ -41,7 +41,7 @@ counted-turns plan m zero = refl
 counted-turns plan m (suc n) = go (after_turns plan (before_first plan m) n) (counted-turns plan m n)
   where
     go : (p : Progress) → IsCounted p → IsCounted (passed plan n p)
-    go p h = by (goes_on p.total.state)
+    go p h = by (is_running p.total.state)
       where
         by : (b : Bool) → IsCounted (if b then at_moment plan n p else p)
         by true = erased-kind (next_of (after_flips n p).total (plan.turn n)).1 (plan.turn n) (after_flips n p).erased (after_flips n p).counts (counted-lines n p.ahead p h)

@@ -10,8 +10,8 @@ use Rattle.step_machine.specs.Total.{Total, reading, next_of}
 use Rattle.step_machine.specs.Flips.{FlippedOf, flipped_of, flipped_of_by, with_bits_of, inverted, is_bit}
 use Rattle.fault_model.specs.Inside.{is_inside, is_inside_among, is_thread_inside}
 use Rattle.fault_model.specs.PlanLines.{PlanLine, flip_of, FaultPlan}
-use Rattle.fault_model.specs.Hits.{Hits, while_out, hits_by, hits_after, part_word_of}
-use Rattle.fault_model.specs.Progress.{Progress, with_flip, falls, with_line, still_ahead, after_lines, after_flips, with_turn, at_moment, goes_on, passed, after_turns, before_first, planned_of}
+use Rattle.fault_model.specs.Admissible.{Hits, while_out, hits_by, hits_after, part_word_of}
+use Rattle.fault_model.specs.Progress.{Progress, with_flip, falls, with_line, still_ahead, after_lines, after_flips, with_turn, at_moment, is_running, passed, after_turns, before_first, planned_of}
 use Rattle.fault_model.specs.Laws.{InsideIsEmptied}
 
 -- ---- flips move nobody
@@ -64,7 +64,7 @@ clear-turns plan m zero = λ o class h. refl
 clear-turns plan m (suc n) = go (after_turns plan (before_first plan m) n) (clear-turns plan m n)
   where
     go : (p : Progress) → IsClear p.total p.hits → IsClear (passed plan n p).total (passed plan n p).hits
-    go p h = by (goes_on p.total.state)
+    go p h = by (is_running p.total.state)
       where
         by : (b : Bool) → IsClear (if b then at_moment plan n p else p).total (if b then at_moment plan n p else p).hits
         by true = clear-while-out (next_of (after_flips n p).total (plan.turn n)).0 (after_flips n p).hits

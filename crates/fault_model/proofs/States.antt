@@ -2,7 +2,7 @@
 use Rattle.std.proofs.Common.{◌≡◌, ℕ, List, [], ◌∷◌, Bool, true, false, refl, ap, ◌∙◌}
 use Rattle.step_machine.specs.Total.{Total}
 use Rattle.fault_model.specs.PlanLines.{PlanLine, flip_of}
-use Rattle.fault_model.specs.Hits.{Hits}
+use Rattle.fault_model.specs.Admissible.{Hits}
 use Rattle.fault_model.specs.Progress.{Progress, with_flip, falls, with_line, still_ahead, after_lines}
 use Rattle.fault_model.specs.Comings.{Coming, coming_of, if_it_falls, comings}
 use Rattle.fault_model.specs.Laws.{FallsByState, StateTellsFlips}
@@ -24,7 +24,7 @@ left i line lines b x = still_ahead b line (after_lines i lines (with_line b lin
 
 alike-line : (i : ℕ) (line : PlanLine) (lines : List PlanLine) (m : Total) (hits : Hits) (p q : Progress) (b : Bool)
     → Alike (comings i lines (with_line b line (set m hits p))) (comings i lines (with_line b line (set m hits q)))
-        (after_lines i lines (with_line b line (set m hits p))) (after_lines i lines (with_line b line (set m hits q)))
+    (after_lines i lines (with_line b line (set m hits p))) (after_lines i lines (with_line b line (set m hits q)))
     → Alike (told i line lines b (set m hits p)) (told i line lines b (set m hits q)) (left i line lines b (set m hits p)) (left i line lines b (set m hits q))
 alike-line i line lines m hits p q true h = (ap (λ l. coming_of (set m hits p) line ∷ l) h.0, h.1, h.2, h.3)
 alike-line i line lines m hits p q false h = (h.0, h.1, h.2, ap (λ l. line ∷ l) h.3)
@@ -38,7 +38,7 @@ alike-set i (line ∷ lines) m hits p q =
     next : (b : Bool)
         → ((n : Total) (later : Hits) (x y : Progress) → Alike (comings i lines (set n later x)) (comings i lines (set n later y)) (after_lines i lines (set n later x)) (after_lines i lines (set n later y)))
         → Alike (comings i lines (with_line b line (set m hits p))) (comings i lines (with_line b line (set m hits q)))
-            (after_lines i lines (with_line b line (set m hits p))) (after_lines i lines (with_line b line (set m hits q)))
+        (after_lines i lines (with_line b line (set m hits p))) (after_lines i lines (with_line b line (set m hits q)))
     next true more =
         more (with_flip (flip_of line) (set m hits p)).total (with_flip (flip_of line) (set m hits p)).hits
         (with_flip (flip_of line) (set m hits p)) (with_flip (flip_of line) (set m hits q))

@@ -4,7 +4,7 @@ use Rattle.step_machine.specs.Total.{Total}
 use Rattle.fault_model.specs.declared.verdict.Verdict.{Verdict}
 use Rattle.fault_model.specs.declared.verdict.Verdict.TheVariants.{Admissible, First}
 use Rattle.fault_model.specs.PlanLines.{PlanLine, FaultPlan}
-use Rattle.fault_model.specs.Progress.{Progress, judged, falls, with_line, still_ahead, after_lines, at_moment, goes_on, passed, after_turns, before_first, planned_of}
+use Rattle.fault_model.specs.Progress.{Progress, judged, falls, with_line, still_ahead, after_lines, at_moment, is_running, passed, after_turns, before_first, planned_of}
 use Rattle.fault_model.specs.Comings.{Coming, coming_of, if_it_falls, comings, comings_at, comings_in, verdict_by, verdict_of}
 use Rattle.fault_model.specs.Laws.{AreAdmissible, IsFirst, VerdictLooksBack}
 
@@ -51,7 +51,7 @@ verdict-lines i (line ∷ lines) p =
     verdict-line (falls i p line) i line lines p (verdict-lines i lines (with_line (falls i p line) line p))
 
 verdict-moment : (plan : FaultPlan) (i : ℕ) (p : Progress) → (passed plan i p).verdict ≡ judge p.verdict (comings_at i p)
-verdict-moment plan i p = go (goes_on p.total.state)
+verdict-moment plan i p = go (is_running p.total.state)
   where
     go : (b : Bool) → (if b then at_moment plan i p else p).verdict ≡ judge p.verdict (if b then comings i p.ahead p else [])
     go true = verdict-lines i p.ahead p
@@ -113,6 +113,7 @@ only-first (c ∷ cs) k h = go (only-first cs k) c.is_admissible refl h
       inadmissible = x.inadmissible;
       has_number = x.has_number;
     }
+
     go : (verdict_of cs ≡ First k → IsFirst cs k) → (b : Bool) → c.is_admissible ≡ b → found b c cs ≡ First k → IsFirst (c ∷ cs) k
     go more true e f = after (more f) e
     go more false e f = record { before = []; first = c; after = cs; split = refl; admissible = tt; inadmissible = e; has_number = ap number-of f }
@@ -125,7 +126,7 @@ no-lines plan m e zero = (e, refl)
 no-lines plan m e (suc n) = go (after_turns plan (before_first plan m) n) (no-lines plan m e n)
   where
     go : (p : Progress) → (p.ahead ≡ []) × (p.verdict ≡ Admissible) → ((passed plan n p).ahead ≡ []) × ((passed plan n p).verdict ≡ Admissible)
-    go p h = by (goes_on p.total.state)
+    go p h = by (is_running p.total.state)
       where
         by : (b : Bool) → ((if b then at_moment plan n p else p).ahead ≡ []) × ((if b then at_moment plan n p else p).verdict ≡ Admissible)
         by true = (ap (λ ls. (after_lines n ls p).ahead) h.0, ap (λ ls. (after_lines n ls p).verdict) h.0 ∙ h.1)

@@ -3,8 +3,8 @@ use Rattle.std.specs.Prelude.{ℕ, zero, suc, min, Bool, true, false, not, List,
 use Rattle.fault_model.specs.declared.verdict.Verdict.{Verdict}
 use Rattle.fault_model.specs.declared.verdict.Verdict.TheVariants.{Admissible, First}
 use Rattle.fault_model.specs.PlanLines.{PlanLine, flip_of, FaultPlan}
-use Rattle.fault_model.specs.Hits.{is_admissible}
-use Rattle.fault_model.specs.Progress.{Progress, falls, with_line, goes_on, after_turns, before_first}
+use Rattle.fault_model.specs.Admissible.{is_admissible}
+use Rattle.fault_model.specs.Progress.{Progress, falls, with_line, is_running, after_turns, before_first}
 
 pub record Coming : Type 0 where
   -- of its line
@@ -29,7 +29,7 @@ comings i (line ∷ lines) p =
     if_it_falls (falls i p line) (coming_of p line) (comings i lines (with_line (falls i p line) line p))
 
 abbrev pub comings_at : ℕ → Progress → List Coming
-comings_at i p = if goes_on p.total.state then comings i p.ahead p else []
+comings_at i p = if is_running p.total.state then comings i p.ahead p else []
 
 -- those before so many turns
 abbrev pub comings_in : FaultPlan → Progress → ℕ → List Coming

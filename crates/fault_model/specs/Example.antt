@@ -22,7 +22,7 @@ use Rattle.fault_model.specs.declared.verdict.Verdict.TheVariants.{Admissible, F
 use Rattle.fault_model.specs.Inside.{is_inside}
 use Rattle.fault_model.specs.Engaged.{is_engaged}
 use Rattle.fault_model.specs.PlanLines.{PlanLine, flip, free, FaultPlan}
-use Rattle.fault_model.specs.Hits.{is_admissible}
+use Rattle.fault_model.specs.Admissible.{is_admissible}
 use Rattle.fault_model.specs.Progress.{Progress, with_flip, planned_of}
 
 -- class Cell { .. };     as it is woven with copies

@@ -1,5 +1,5 @@
 -- What holds of every run by a plan.
-use Rattle.std.specs.Prelude.{◌≡◌, ◌≤◌, ℕ, ◌+◌, ◌^◌, min, Bool, true, false, List, [], ◌∷◌, ◌++◌, length}
+use Rattle.std.specs.Prelude.{◌≡◌, ◌≤◌, ℕ, ◌+◌, ◌^◌, min, nat_eq, Bool, true, false, List, [], ◌∷◌, ◌++◌, length}
 use Rattle.std.specs.List.{list_any}
 use Rattle.agxx_base.specs.declared.ids.ClassId.{ClassId}
 use Rattle.step_machine.specs.Machine.{Machine}
@@ -8,6 +8,8 @@ use Rattle.fault_model.specs.declared.verdict.Verdict.{Verdict}
 use Rattle.fault_model.specs.declared.verdict.Verdict.TheVariants.{Admissible, First}
 use Rattle.fault_model.specs.Inside.{is_inside, is_thread_inside}
 use Rattle.fault_model.specs.PlanLines.{FaultPlan}
+use Rattle.fault_model.specs.Parts.{is_single}
+use Rattle.fault_model.specs.Admissible.{Hit, goes_with}
 use Rattle.fault_model.specs.Progress.{Progress, before_first, after_flips, planned_of}
 use Rattle.fault_model.specs.Comings.{Coming, comings, comings_in, verdict_of}
 use Rattle.fault_model.specs.Cost.{check_words}
@@ -62,6 +64,22 @@ pub record InsideIsEmptied : Type 0 where
   -- on the state as lists
   pub of_lists : (m : Machine) (o : ℕ) (class : ClassId)
       → is_inside (reading m) o class ≡ list_any (is_thread_inside m.setting o class) m.threads
+
+-- ---- hits that were admissible
+
+-- of hits, the last first, each goes with those before it
+abbrev pub GoTogether : Bool → List Hit → Type 0
+GoTogether single [] = Unit {0}
+GoTogether single (hit ∷ hits) = (goes_with single hits hit.bit ≡ true) × GoTogether single hits
+
+pub record AdmissibleHits : Type 0 where
+  -- where the flips so far were admissible, those of a part since somebody was last inside go together
+  pub of_run : (plan : FaultPlan) (m : Total) (n o : ℕ) (class : ClassId)
+      → (planned_of plan m n).verdict ≡ Admissible → GoTogether (is_single m.setting class) ((planned_of plan m n).hits o class)
+  -- of a single part that is at most one
+  pub of_single : (hits : List Hit) → GoTogether true hits → length hits ≤ 1
+  -- of another at most one at each bit place
+  pub of_others : (hit : Hit) (hits : List Hit) → GoTogether false (hit ∷ hits) → list_any (λ (h : Hit). nat_eq h.bit hit.bit) hits ≡ false
 
 -- ---- counts
 

@@ -2,7 +2,7 @@ pub mod Parts
 pub mod Inside
 pub mod Engaged
 pub mod PlanLines
-pub mod Hits
+pub mod Admissible
 pub mod Progress
 pub mod Exact
 pub mod Cost

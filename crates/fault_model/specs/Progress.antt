@@ -12,7 +12,7 @@ use Rattle.step_machine.specs.Flips.{FlippedOf, flipped_of}
 use Rattle.fault_model.specs.declared.verdict.Verdict.{Verdict}
 use Rattle.fault_model.specs.declared.verdict.Verdict.TheVariants.{Admissible, First}
 use Rattle.fault_model.specs.PlanLines.{PlanLine, flip, free, flip_of, FaultPlan}
-use Rattle.fault_model.specs.Hits.{Hits, no_hits, while_out, is_admissible, hits_after}
+use Rattle.fault_model.specs.Admissible.{Hits, no_hits, while_out, is_admissible, hits_after}
 
 pub record Progress : Type 0 where
   pub total : Total
@@ -104,13 +104,13 @@ with_turn t p = with_next t p (next_of p.total t)
 abbrev pub at_moment : FaultPlan → ℕ → Progress → Progress
 at_moment plan i p = with_turn (plan.turn i) (after_flips i p)
 
-abbrev pub goes_on : State → Bool
-goes_on state.Running = true
-goes_on _ = false
+abbrev pub is_running : State → Bool
+is_running state.Running = true
+is_running _ = false
 
 -- while the run goes on
 abbrev pub passed : FaultPlan → ℕ → Progress → Progress
-passed plan i p = if goes_on p.total.state then at_moment plan i p else p
+passed plan i p = if is_running p.total.state then at_moment plan i p else p
 
 abbrev pub after_turns : FaultPlan → Progress → ℕ → Progress
 after_turns plan p zero = p

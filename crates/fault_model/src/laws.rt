@@ -2,7 +2,7 @@
 
 ghost use Rattle.fault_model.specs.Example.{TwoThreadsRun};
 ghost use Rattle.fault_model.specs.Laws.{VerdictLooksBack, StateTellsFlips, InsideIsEmptied};
-ghost use Rattle.fault_model.specs.Laws.{ErasesSource, CheckWordsAreLeast};
+ghost use Rattle.fault_model.specs.Laws.{AdmissibleHits, ErasesSource, CheckWordsAreLeast};
 
 /// After each number of turns the verdict is that of all flips that came: admissible exactly where each was as it came, and
 /// else the first in time that wasn't is told. A plan without flips has an admissible verdict.
@@ -19,6 +19,12 @@ pub fn state_tells_flips()
 /// While somebody is inside a part of an object, it has no hits. To be inside means the same on the state as lists.
 pub fn inside_is_emptied()
     ensures { InsideIsEmptied }
+{}
+
+/// Where the flips so far were admissible, those of a part since somebody was last inside go together: of a single part
+/// there is at most one, of another at most one at each bit place.
+pub fn admissible_hits_go_together()
+    ensures { AdmissibleHits }
 {}
 
 /// As many threads are kept as source steps were counted.

@@ -15,7 +15,7 @@ use Rattle.step_machine.specs.Flips.{FlippedOf, flipped, flipped_of}
 use Rattle.step_machine.proofs.Turns.{agree}
 use Rattle.fault_model.specs.PlanLines.{flip, fault_plan}
 use Rattle.fault_model.specs.Progress as of
-use Rattle.fault_model.specs.Progress.{one_more, with_flip, with_line, still_ahead, after_lines, after_flips, goes_on}
+use Rattle.fault_model.specs.Progress.{one_more, with_flip, with_line, still_ahead, after_lines, after_flips}
 use Rattle.step_engine.specs.TurnRuns.{is_running}
 use Rattle.step_engine.specs.Flips as by_engine
 use Rattle.plan_runs.specs.Flips.{falling, flip_of}
@@ -97,7 +97,7 @@ erased-is kind.Inserted t = refl
 erased-is kind.Blocked t = refl
 erased-is kind.Idle t = refl
 
-running-is : (s : State) → goes_on s ≡ is_running s
+running-is : (s : State) → of.is_running s ≡ is_running s
 running-is state.Running = refl
 running-is (state.Ended z) = refl
 running-is (state.Stopped cause at) = refl
@@ -133,7 +133,7 @@ moment-agrees plan i p l g =
 
 -- Once the run is over, nothing falls and no turn is taken.
 abbrev Runs : PlanMeaning → of.Progress → on.Progress → ℕ → Type 0
-Runs plan p l i = HasAll p l × (goes_on p.total.state ≡ true → p.ahead ≡ map flip (left_at plan.flips i))
+Runs plan p l i = HasAll p l × (of.is_running p.total.state ≡ true → p.ahead ≡ map flip (left_at plan.flips i))
 
 clash : {P : Type 0} → true ≡ false → P
 clash e = absurd (true≢false e)
@@ -141,12 +141,12 @@ clash e = absurd (true≢false e)
 passed-agrees : (plan : PlanMeaning) (i : ℕ) (p : of.Progress) (l : on.Progress) → Runs plan p l i
     → Runs plan (of.passed (fault_plan plan) i p) (passed plan i l) (suc i)
 unfolding passed
-passed-agrees plan i p l h = go (goes_on p.total.state) (is_running l.ran.0.state) refl refl
+passed-agrees plan i p l h = go (of.is_running p.total.state) (is_running l.ran.0.state) refl refl
   where
-    alike : goes_on p.total.state ≡ is_running l.ran.0.state
-    alike = ap (λ (m : Total). goes_on m.state) h.0.total ∙ running-is l.ran.0.state
+    alike : of.is_running p.total.state ≡ is_running l.ran.0.state
+    alike = ap (λ (m : Total). of.is_running m.state) h.0.total ∙ running-is l.ran.0.state
 
-    go : (b c : Bool) → goes_on p.total.state ≡ b → is_running l.ran.0.state ≡ c
+    go : (b c : Bool) → of.is_running p.total.state ≡ b → is_running l.ran.0.state ≡ c
         → Runs plan (if b then of.at_moment (fault_plan plan) i p else p) (if c then on.at_moment plan i l else l) (suc i)
     go true true e f = let x = moment-agrees plan i p l (h.0, h.1 e) in (x.0, λ q. x.1)
     go true false e f = clash (sym e ∙ alike ∙ f)
