@@ -130,10 +130,11 @@ abbrev Fine : Setting → Progress → Type 0
 Fine s p = (p.total.setting ≡ s) × (p.verdict ≡ Admissible → Together s p.hits)
 
 fine-flip : (s : Setting) (f : PlannedFlip) (p : Progress) → Fine s p → Fine s (with_flip f p)
-fine-flip s f p h =
-    (setting-flipped f.object.0 f.word f.bit p.total ∙ h.0,
-    λ e. let x = judged-so (is_admissible p.total p.hits f) f.number p.verdict e in
-        together-after (flipped_of f.object.0 f.word f.bit p.total).1 s p.total f p.hits h.0 (h.1 x.1) x.0)
+fine-flip s f p h = (
+  setting-flipped f.object.0 f.word f.bit p.total ∙ h.0,
+  λ e. let x = judged-so (is_admissible p.total p.hits f) f.number p.verdict e in
+      together-after (flipped_of f.object.0 f.word f.bit p.total).1 s p.total f p.hits h.0 (h.1 x.1) x.0,
+)
 
 fine-line : (s : Setting) (b : Bool) (line : PlanLine) (p : Progress) → Fine s p → Fine s (with_line b line p)
 fine-line s true line p h = fine-flip s (flip_of line) p h

@@ -7,7 +7,7 @@ mod laws;
 mod verdict;
 
 pub use laws::{
-    admissible_hits_go_together, check_words_are_least, erased_are_counted, example_runs, inside_is_emptied, state_tells_flips,
-    verdict_looks_back,
+    admissible_hits_go_together, check_words_are_least, erased_are_counted, example_runs,
+    inside_is_emptied, state_tells_flips, verdict_looks_back,
 };
 pub use verdict::Verdict;
