@@ -1,9 +1,9 @@
 -- The number of check words is the least that is large enough.
-use Rattle.std.proofs.Common.{◌≡◌, ◌≤◌, ◌<◌, ◌⊎◌, inl, inr, ◌+◌, ◌^◌, ℕ, zero, suc, if◌then◌else◌, Bool, true, false, refl, sym, subst, arith}
+use Rattle.std.proofs.Common.{◌≡◌, ◌≤◌, ◌<◌, ◌⊎◌, inl, inr, ◌+◌, ◌^◌, ℕ, zero, suc, if◌then◌else◌, Bool, true, false, refl, subst, arith}
 use Rattle.std.specs.Prelude.{nat_le}
 use Rattle.std.proofs.lemmas.Bool.Decides.{nat_tests, leb_tells}
 use native.Mathlib.Nat.{pow-suc}
-use Rattle.fault_model.specs.Cost.{check_words, check_words_from}
+use Rattle.fault_model.specs.Cost.{check_words_from}
 use Rattle.fault_model.specs.Laws.{IsCheckCount, CheckWordsAreLeast}
 
 le-tells : (a b : ℕ) → nat_le a b ≡ true → a ≤ b

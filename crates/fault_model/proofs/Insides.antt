@@ -11,7 +11,7 @@ use Rattle.step_machine.specs.Flips.{FlippedOf, flipped_of, flipped_of_by, with_
 use Rattle.fault_model.specs.Inside.{is_inside, is_inside_among, is_thread_inside}
 use Rattle.fault_model.specs.PlanLines.{PlanLine, flip_of, FaultPlan}
 use Rattle.fault_model.specs.Admissible.{Hits, while_out, hits_by, hits_after, part_word_of}
-use Rattle.fault_model.specs.Progress.{Progress, with_flip, falls, with_line, still_ahead, after_lines, after_flips, with_turn, at_moment, is_running, passed, after_turns, before_first, planned_of}
+use Rattle.fault_model.specs.Progress.{Progress, with_flip, falls, with_line, still_ahead, after_lines, after_flips, at_moment, is_running, passed, after_turns, before_first}
 use Rattle.fault_model.specs.Laws.{InsideIsEmptied}
 
 -- ---- flips move nobody

@@ -5,7 +5,7 @@ use Rattle.fault_model.specs.PlanLines.{PlanLine, flip_of}
 use Rattle.fault_model.specs.Admissible.{Hits}
 use Rattle.fault_model.specs.Progress.{Progress, with_flip, falls, with_line, still_ahead, after_lines}
 use Rattle.fault_model.specs.Comings.{Coming, coming_of, if_it_falls, comings}
-use Rattle.fault_model.specs.Laws.{FallsByState, StateTellsFlips}
+use Rattle.fault_model.specs.Laws.{StateTellsFlips}
 
 -- in this state
 abbrev set : Total → Hits → Progress → Progress

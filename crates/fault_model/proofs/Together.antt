@@ -18,7 +18,7 @@ use Rattle.fault_model.specs.Parts.{PartWord, is_single}
 use Rattle.fault_model.specs.Inside.{is_inside}
 use Rattle.fault_model.specs.PlanLines.{PlanLine, flip_of, FaultPlan}
 use Rattle.fault_model.specs.Admissible.{Hit, Hits, with_hit, while_out, goes_with, is_admissible_at, is_admissible, part_word_of, hit_of, hits_by, hits_after}
-use Rattle.fault_model.specs.Progress.{Progress, judged, with_flip, falls, with_line, still_ahead, after_lines, after_flips, with_turn, at_moment, is_running, passed, after_turns, before_first, planned_of}
+use Rattle.fault_model.specs.Progress.{Progress, judged, with_flip, falls, with_line, still_ahead, after_lines, after_flips, with_turn, at_moment, is_running, passed, after_turns, before_first}
 use Rattle.fault_model.specs.Laws.{GoTogether, AdmissibleHits}
 
 -- ---- the setting stays

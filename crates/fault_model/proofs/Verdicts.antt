@@ -1,10 +1,10 @@
 -- The verdict of a run is that of all flips that came.
-use Rattle.std.proofs.Common.{◌≡◌, ℕ, zero, suc, min, if◌then◌else◌, List, [], ◌∷◌, ◌++◌, Bool, true, false, not, cond, refl, ap, sym, ◌∙◌, find, Option, Some, None}
+use Rattle.std.proofs.Common.{◌≡◌, ℕ, zero, suc, min, if◌then◌else◌, List, [], ◌∷◌, ◌++◌, Bool, true, false, not, cond, refl, ap, sym, ◌∙◌, find, Some}
 use Rattle.step_machine.specs.Total.{Total}
 use Rattle.fault_model.specs.declared.verdict.Verdict.{Verdict}
 use Rattle.fault_model.specs.declared.verdict.Verdict.TheVariants.{Admissible, First}
 use Rattle.fault_model.specs.PlanLines.{PlanLine, FaultPlan}
-use Rattle.fault_model.specs.Progress.{Progress, judged, falls, with_line, still_ahead, after_lines, at_moment, is_running, passed, after_turns, before_first, planned_of}
+use Rattle.fault_model.specs.Progress.{Progress, judged, falls, with_line, still_ahead, after_lines, at_moment, is_running, passed, after_turns, before_first}
 use Rattle.fault_model.specs.Comings.{Coming, coming_of, if_it_falls, comings, comings_at, comings_in, verdict_by, verdict_of}
 use Rattle.fault_model.specs.Laws.{AreAdmissible, IsFirst, VerdictLooksBack}
 

@@ -1,10 +1,10 @@
 -- The flips that come in a run, in time, and the verdict as a look back on all of them.
-use Rattle.std.specs.Prelude.{ℕ, zero, suc, min, Bool, true, false, not, List, [], ◌∷◌, ◌++◌, find, Option, Some, None, if◌then◌else◌}
+use Rattle.std.specs.Prelude.{ℕ, zero, suc, Bool, true, false, not, List, [], ◌∷◌, ◌++◌, find, Option, Some, None, if◌then◌else◌}
 use Rattle.fault_model.specs.declared.verdict.Verdict.{Verdict}
 use Rattle.fault_model.specs.declared.verdict.Verdict.TheVariants.{Admissible, First}
 use Rattle.fault_model.specs.PlanLines.{PlanLine, flip_of, FaultPlan}
 use Rattle.fault_model.specs.Admissible.{is_admissible}
-use Rattle.fault_model.specs.Progress.{Progress, falls, with_line, is_running, after_turns, before_first}
+use Rattle.fault_model.specs.Progress.{Progress, falls, with_line, is_running, after_turns}
 
 pub record Coming : Type 0 where
   -- of its line

@@ -1,6 +1,6 @@
 -- How many inserted steps a thread takes in a row at most, by the source: its classes with what guards each, and how many
 -- parameters each level has that advice makes.
-use Rattle.std.specs.Prelude.{ℕ, zero, suc, ◌+◌, ◌*◌, ◌^◌, max, nat_le, List, [], ◌∷◌, map, length, sum_by, Option, Some, None, slice_get, if◌then◌else◌}
+use Rattle.std.specs.Prelude.{ℕ, zero, suc, ◌+◌, ◌*◌, ◌^◌, max, nat_le, List, [], ◌∷◌, length, sum_by, Option, Some, None, if◌then◌else◌}
 use Rattle.agxx_base.specs.declared.ids.ClassId.{ClassId}
 use Rattle.cxx_core.specs.CoreProgram.{CoreWord, CoreClass}
 use Rattle.step_machine.specs.Setting.{Setting, class_at, line}

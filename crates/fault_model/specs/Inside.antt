@@ -1,6 +1,6 @@
 -- Who is inside a part of an object: a thread, one of whose frames has the object as its `this` and is of a function of the
 -- part's class or of a class derived from it. A frame that is out takes no part in it.
-use Rattle.std.specs.Prelude.{ℕ, zero, suc, Bool, true, false, not, ◌&&◌, ◌||◌, List, [], ◌∷◌, Some}
+use Rattle.std.specs.Prelude.{ℕ, zero, suc, Bool, false, not, ◌&&◌, ◌||◌, List, [], ◌∷◌, Some}
 use Rattle.agxx_base.specs.declared.ids.ClassId.{ClassId}
 use Rattle.step_machine.specs.Setting.{Setting, class_of_function, is_of}
 use Rattle.step_machine.specs.Frame.{Frame, is_object}

@@ -4,7 +4,6 @@ use Rattle.std.specs.List.{list_any}
 use Rattle.agxx_base.specs.declared.ids.ClassId.{ClassId}
 use Rattle.step_machine.specs.Machine.{Machine}
 use Rattle.step_machine.specs.Total.{Total, reading}
-use Rattle.fault_model.specs.declared.verdict.Verdict.{Verdict}
 use Rattle.fault_model.specs.declared.verdict.Verdict.TheVariants.{Admissible, First}
 use Rattle.fault_model.specs.Inside.{is_inside, is_thread_inside}
 use Rattle.fault_model.specs.PlanLines.{FaultPlan}

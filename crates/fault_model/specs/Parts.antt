@@ -1,7 +1,7 @@
 -- Which classes of a program have a part, and the words of parts. A class has one where it declares a member that is named
 -- after it: `__gop_n_`, and then the class's own name. This member counts; the other words that the class itself declares
 -- are the words of its part. Mutexes are no words.
-use Rattle.std.specs.Prelude.{ℕ, nat_eq, Bool, true, false, not, List, [], ◌∷◌, ◌++◌, map, filter, find, flat_map, Option, Some, None, slice_get, codes, if◌then◌else◌}
+use Rattle.std.specs.Prelude.{ℕ, nat_eq, Bool, true, false, not, List, [], ◌++◌, map, filter, find, flat_map, Option, Some, None, slice_get, codes, if◌then◌else◌}
 use Rattle.std.specs.List.{list_any}
 use Rattle.agxx_base.specs.declared.ids.ClassId.{ClassId}
 use Rattle.cxx_names.specs.Declarations.{is_text}

@@ -1,6 +1,5 @@
 -- The run of a plan over the state as functions, with all that tells which flips were admissible.
 use Rattle.std.specs.Prelude.{ℕ, zero, suc, min, nat_eq, nat_le, Bool, true, false, ◌&&◌, List, [], ◌∷◌, ◌++◌, if◌then◌else◌}
-use Rattle.agxx_base.specs.declared.ids.ClassId.{ClassId}
 use Rattle.flip_plan.specs.declared.flip.PlannedFlip.{PlannedFlip}
 use Rattle.step_machine.specs.declared.outcome.State.{State}
 use Rattle.step_machine.specs.declared.outcome.State.TheVariants as state
