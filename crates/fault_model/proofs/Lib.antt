@@ -5,3 +5,4 @@ pub mod Together
 pub mod Counts
 pub mod CheckWords
 pub mod Example
+pub mod SourceExample

@@ -1,6 +1,7 @@
-//! The fault model: where the parts of objects are, who is inside them, which flips are admissible, and what a run by a
-//! plan comes to. Callers cite `Progress` (`planned_of`) and `Verdict`. The specs are read in this order: `Parts`, `Inside`,
-//! `Engaged`, `PlanLines`, `Admissible`, `Progress`, `Comings`, `Exact`, `Cost`; what holds of every run stands in `Laws`.
+//! The fault model: where the parts of objects are, who is inside them, which flips are admissible, and what a run by
+//! a plan comes to. Callers cite `Progress` (`planned_of`) and `Verdict`. The specs are read in this order: `Parts`,
+//! `Inside`, `Engaged`, `PlanLines`, `Admissible`, `Progress`, `Comings`, `Exact`, `Cost`; what holds of every run
+//! stands in `Laws`, and two threads at work on one object in `Example`.
 #![tactic(auto)]
 
 mod laws;
