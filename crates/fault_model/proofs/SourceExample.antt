@@ -56,7 +56,7 @@ exact-by m p e f q of w member h =
     let x : IsMemberOf two_threads source class_cell of w member = subst (λ s. IsMemberOf two_threads s class_cell of w member) f h1 in
     let y : (of.0 ≡ 0) × (member ≡ word 1) = own-member of.0 x.member_of.0 member x.member_of.1 x.member_of.2 in
     let t : is-v (slice_get names w.name) ≡ true =
-        ap is-v (x.word_is ∙ sym x.member_is) ∙ ap (λ (v : CoreWord). is-v (slice_get names v.name)) y.1 in
+    ap is-v (x.word_is ∙ sym x.member_is) ∙ ap (λ (v : CoreWord). is-v (slice_get names v.name)) y.1 in
     let z : w ≡ word 1 = part-member x.word_of.0 w x.word_of.1 x.word_of.2 t in
     let a : word_number m.setting class_cell w.name ≡ 0 = λ j. word_number (e j) class_cell (z j).name in
     let b : word_number p.setting of member.name ≡ 0 = λ j. word_number (f j) (record { 0 = y.0 j }) (y.1 j).name in
