@@ -6,3 +6,4 @@ pub mod Counts
 pub mod CheckWords
 pub mod Example
 pub mod SourceExample
+pub mod LaidOut

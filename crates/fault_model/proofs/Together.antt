@@ -80,7 +80,7 @@ together-while s m hits h = λ o class. go (is_inside m o class) o class
     go true o class = tt
     go false o class = h o class
 
-and-left : (a b : Bool) → (a && b) ≡ true → a ≡ true
+pub and-left : (a b : Bool) → (a && b) ≡ true → a ≡ true
 and-left true b e = refl
 and-left false b e = e
 

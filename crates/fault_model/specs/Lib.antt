@@ -10,3 +10,4 @@ pub mod Comings
 pub mod Laws
 pub mod Example
 pub mod SourceExample
+pub mod LaidOut

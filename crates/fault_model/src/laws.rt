@@ -2,6 +2,7 @@
 
 ghost use Rattle.fault_model.specs.Example.{TwoThreadsRun};
 ghost use Rattle.fault_model.specs.SourceExample.{SourceFollows};
+ghost use Rattle.fault_model.specs.LaidOut.{PartsAreLaidOut};
 ghost use Rattle.fault_model.specs.Laws.{VerdictLooksBack, StateTellsFlips, InsideIsEmptied};
 ghost use Rattle.fault_model.specs.Laws.{AdmissibleHits, ErasesSource, CheckWordsAreLeast};
 
@@ -26,6 +27,12 @@ pub fn inside_is_emptied()
 /// part there is at most one, of another at most one at each bit place.
 pub fn admissible_hits_go_together()
     ensures { AdmissibleHits }
+{}
+
+/// In programs whose bases and names are as in accepted ones, a word of a part is the word of its object that has its
+/// number, and an admissible flip on a word that is there inverts its bit.
+pub fn parts_are_laid_out()
+    ensures { PartsAreLaidOut }
 {}
 
 /// As many threads are kept as source steps were counted.
