@@ -5,3 +5,5 @@ pub mod Together
 pub mod Counts
 pub mod CheckWords
 pub mod Example
+pub mod SourceExample
+pub mod LaidOut

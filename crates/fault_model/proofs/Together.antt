@@ -18,7 +18,7 @@ use Rattle.fault_model.specs.Parts.{PartWord, is_single}
 use Rattle.fault_model.specs.Inside.{is_inside}
 use Rattle.fault_model.specs.PlanLines.{PlanLine, flip_of, FaultPlan}
 use Rattle.fault_model.specs.Admissible.{Hit, Hits, with_hit, while_out, goes_with, is_admissible_at, is_admissible, part_word_of, hit_of, hits_by, hits_after}
-use Rattle.fault_model.specs.Progress.{Progress, judged, with_flip, falls, with_line, still_ahead, after_lines, after_flips, with_turn, at_moment, is_running, passed, after_turns, before_first}
+use Rattle.fault_model.specs.Progress.{Progress, judged, with_flip, falls, with_line, still_ahead, after_lines, after_flips, with_turn, at_moment, is_running, passed, after_turns, before_first, planned_of}
 use Rattle.fault_model.specs.Laws.{GoTogether, AdmissibleHits}
 
 -- ---- the setting stays
@@ -65,6 +65,9 @@ setting-if (state.Stopped cause at) m t = refl
 setting-if (state.Halted o class) m t = refl
 setting-if state.Lost m t = refl
 
+pub setting-next : (m : Total) (t : ℕ) → (next_of m t).0.setting ≡ m.setting
+setting-next m t = setting-if m.state m t
+
 -- ---- hits
 
 abbrev Together : Setting → Hits → Type 0
@@ -77,7 +80,7 @@ together-while s m hits h = λ o class. go (is_inside m o class) o class
     go true o class = tt
     go false o class = h o class
 
-and-left : (a b : Bool) → (a && b) ≡ true → a ≡ true
+pub and-left : (a b : Bool) → (a && b) ≡ true → a ≡ true
 and-left true b e = refl
 and-left false b e = e
 
@@ -164,6 +167,9 @@ fine-passed s plan i p h = go (is_running p.total.state)
 fine-turns : (plan : FaultPlan) (m : Total) (n : ℕ) → Fine m.setting (after_turns plan (before_first plan m) n)
 fine-turns plan m zero = (refl, λ e o class. tt)
 fine-turns plan m (suc n) = fine-passed m.setting plan n (after_turns plan (before_first plan m) n) (fine-turns plan m n)
+
+pub setting-planned : (plan : FaultPlan) (m : Total) (n : ℕ) → (planned_of plan m n).total.setting ≡ m.setting
+setting-planned plan m n = (fine-turns plan m (min n plan.limit)).0
 
 -- ---- what it comes to
 

@@ -41,9 +41,10 @@ names = woven.names ++ codes "work" ∷ codes "a" ∷ codes "join" ∷ []
 abbrev pub putting : ℕ → ℕ → s.StmtTree
 putting line n = calling (base_of.Dot (ref false line 5)) line 2 (e.more_exprs (unsigned_literal line n) e.no_exprs)
 
-abbrev pub two_threads : Setting
-two_threads = setting_of names (program_of (
-    p.class woven.class_cell
+-- with this class
+abbrev pub setting_with : p.ClassTree → Setting
+setting_with class = setting_of names (program_of (
+    p.class class
     ∷ object 54 0 5
     ∷ p.free_function (record {
       result = placed 55 type_name.Void;
@@ -59,6 +60,9 @@ two_threads = setting_of names (program_of (
     ∷ returning 61 (literal 61 0)
     ∷ [])
     ∷ []))
+
+abbrev pub two_threads : Setting
+two_threads = setting_with woven.class_cell
 
 -- ---- whose turn it is
 

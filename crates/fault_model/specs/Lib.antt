@@ -9,3 +9,5 @@ pub mod Cost
 pub mod Comings
 pub mod Laws
 pub mod Example
+pub mod SourceExample
+pub mod LaidOut

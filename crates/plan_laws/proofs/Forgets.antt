@@ -75,7 +75,7 @@ flipped-is p m o w bit e = ap (flipped_of o w bit) e ∙ sym (agree.of_flip m o 
 lines-step : (i : ℕ) (f : PlannedFlip) (fs : List PlannedFlip) → LinesAgree i fs → (p : of.Progress) (m : Machine) (n : ℕ) → p.total ≡ reading m → p.flips ≡ n
     → (b : Bool)
     → Agree (still_ahead b (flip f) (after_lines i (map flip fs) (with_line b (flip f) p))) p
-        (with_flips (m, n) (map flip_of (cond b (f ∷ falling fs i) (falling fs i)))) (cond (not b) (f ∷ later i fs) (later i fs))
+    (with_flips (m, n) (map flip_of (cond b (f ∷ falling fs i) (falling fs i)))) (cond (not b) (f ∷ later i fs) (later i fs))
 lines-step i f fs more p m n e c true =
     let h = flipped-is p m f.object.0 f.word f.bit e in
     subst (λ r. Agree (after_lines i (map flip fs) (with_flip f p)) p (with_flips r (map flip_of (falling fs i))) (later i fs)) (sym (fallen-is m n f))
@@ -113,22 +113,24 @@ turn-agrees : (t : ℕ) (y p : of.Progress) (r : Fallen) (ls : List PlannedFlip)
 turn-agrees t y p r ls l h a =
     let n : next_of y.total t ≡ (reading (next r.0 t).0, (next r.0 t).1) = ap (λ m. next_of m t) a.0 ∙ sym (agree.of_next r.0 t) in
     let c : y.counts ≡ l.ran.1 = a.3 ∙ h.counts in
-    let s : y.erased ≡ l.erased = a.4 ∙ h.erased in
-    (record {
-      total = ap (λ (x : NextOf). x.0) n;
-      counts = λ j. counted (n j).1 (c j);
-      flips = a.1;
-      erased = (λ j. s j ++ of.erased_by (n j).1 t) ∙ ap (λ x. l.erased ++ x) (erased-is (next r.0 t).1 t);
-    }, a.2)
+    let s : y.erased ≡ l.erased = a.4 ∙ h.erased in (
+      record {
+        total = ap (λ (x : NextOf). x.0) n;
+        counts = λ j. counted (n j).1 (c j);
+        flips = a.1;
+        erased = (λ j. s j ++ of.erased_by (n j).1 t) ∙ ap (λ x. l.erased ++ x) (erased-is (next r.0 t).1 t);
+      },
+      a.2,
+    )
 
 moment-agrees : (plan : PlanMeaning) (i : ℕ) (p : of.Progress) (l : on.Progress) → Goes plan i p l
     → Goes plan (suc i) (of.at_moment (fault_plan plan) i p) (on.at_moment plan i l)
 moment-agrees plan i p l g =
     let a = lines-agree i (left_at plan.flips i) p l.ran.0 l.flips g.0.total g.0.flips in
     let b : Agree (after_flips i p) p (with_flips (l.ran.0, l.flips) (map flip_of (falling (left_at plan.flips i) i))) (left_at plan.flips (suc i)) =
-        subst (λ x. Agree (after_lines i x p) p (with_flips (l.ran.0, l.flips) (map flip_of (falling (left_at plan.flips i) i))) (left_at plan.flips (suc i))) (sym g.1) a in
+    subst (λ x. Agree (after_lines i x p) p (with_flips (l.ran.0, l.flips) (map flip_of (falling (left_at plan.flips i) i))) (left_at plan.flips (suc i))) (sym g.1) a in
     let d : Agree (after_flips i p) p (with_flips (l.ran.0, l.flips) (map flip_of (falling plan.flips i))) (left_at plan.flips (suc i)) =
-        subst (λ x. Agree (after_flips i p) p (with_flips (l.ran.0, l.flips) (map flip_of x)) (left_at plan.flips (suc i))) (falling-left plan.flips i i (omega arith)) b in
+    subst (λ x. Agree (after_flips i p) p (with_flips (l.ran.0, l.flips) (map flip_of x)) (left_at plan.flips (suc i))) (falling-left plan.flips i i (omega arith)) b in
     turn-agrees (turn_of plan i) (after_flips i p) p (with_flips (l.ran.0, l.flips) (map flip_of (falling plan.flips i))) (left_at plan.flips (suc i)) l g.0 d
 
 -- Once the run is over, nothing falls and no turn is taken.
