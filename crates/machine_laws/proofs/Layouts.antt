@@ -127,7 +127,7 @@ module _ (names : List (List ℕ)) where
     as-many (p.global g ∷ xs) found n = as-many xs (with_decl names found (p.global g)) n
 
     -- one class in the text, among what is declared, and in the core form
-    abbrev Pair : List p.DeclTree → ℕ → ℕ → ClassInfo → Type 0
+    abbrev pub Pair : List p.DeclTree → ℕ → ℕ → ClassInfo → Type 0
     Pair xs n j info =
         (c : p.ClassTree) × (found : Declared) × (i : ℕ) × (slice_get xs i ≡ Some (p.class c)) × (info ≡ (class_items found c).info)
         × (slice_get (decls_classes known n xs) j ≡ Some (core_class known (id (n + j)) c))
@@ -165,10 +165,10 @@ module _ (names : List (List ℕ)) (q : p.ProgramTree) where
   known-is : known.classes ≡ found
   known-is = classes-are names q.decls empty
 
-  pair : (i : ℕ) (info : ClassInfo) → slice_get known.classes i ≡ Some info → Pair names known q.decls 0 i info
+  pub pair : (i : ℕ) (info : ClassInfo) → slice_get known.classes i ≡ Some info → Pair names known q.decls 0 i info
   pair i info e = paired names known q.decls empty 0 i info (sym (ap (λ l. slice_get l i) known-is) ∙ e)
 
-  at-class : (i : ℕ) (info : ClassInfo) (e : slice_get known.classes i ≡ Some info) → class_at s (id i) ≡ Some (core_class known (id i) (pair i info e).0)
+  pub at-class : (i : ℕ) (info : ClassInfo) (e : slice_get known.classes i ≡ Some info) → class_at s (id i) ≡ Some (core_class known (id i) (pair i info e).0)
   at-class i info e = let r = pair i info e in let z : 0 + i ≡ i = omega arith in r.5 ∙ ap (λ n. Some (core_class known (id n) r.0)) z
 
   base-is : (i : ℕ) (info : ClassInfo) (x : CoreClass) → slice_get known.classes i ≡ Some info → class_at s (id i) ≡ Some x → x.base ≡ info.base

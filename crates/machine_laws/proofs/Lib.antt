@@ -5,3 +5,12 @@ pub mod Locates
 pub mod Along
 pub mod LaidOut
 pub mod Layouts
+pub mod Holding
+pub mod Entering
+pub mod Acts
+pub mod MemberWidths
+pub mod Fits
+pub mod MemberKinds
+pub mod Elaborated
+pub mod ElaboratedPrograms
+pub mod Widths

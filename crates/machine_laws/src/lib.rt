@@ -5,4 +5,4 @@
 
 mod laws;
 
-pub use laws::{layouts_agree, words_are_located};
+pub use laws::{layouts_agree, widths_are_kept, words_are_located};
