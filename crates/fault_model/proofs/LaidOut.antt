@@ -117,26 +117,55 @@ in-part-by s (Some class) i w e = go (declares_part s class) e
 eq-tells : (a b : ℕ) → nat_eq a b ≡ true → a ≡ b
 eq-tells a b e = same-eq a b (sym (nat-same a b) ∙ e)
 
-laid-out : (s : Setting) → IsLaidOut s → (class : ClassId) (n : ℕ) (p : PartWord) → part_word_at s (Some class) n ≡ Some p → slice_get (words_of s class) n ≡ Some p.word
-laid-out s h class n p e =
-    let x = found-in (λ q. nat_eq (number_of s q) n) (words_in_parts s (Some class)) p e in
-    let y = in-flat (words_with_class s) (line s (Some class)) x.1.0 p x.1.1 in
-    let z = in-map (λ (v : CoreWord). record { class = y.0; word = v }) (part_words s y.0) y.2.0 p y.2.1 in
-    let u = in-part-by s (class_at s y.0) z.1.0 z.0 z.1.1 in
-    let of : is_of s (Some class) (Some y.0) ≡ true =
-    any-in (λ (c : ClassId). nat_eq y.0.0 c.0) (line s (Some class)) y.1.0 y.0 y.1.1 (nat-same y.0.0 y.0.0 ∙ same-self y.0.0) in
-    let at : locate own_words s (Some class) (word_number s y.0 z.0.name) ≡ Some (y.0, u.2.0) =
-    (words-are-located.of_names s h.bases).of_word (Some class) y.0 u.0 u.2.0 z.0 of u.1 (h.words y.0 u.0 u.1) u.2.1 in
-    let is : word_number s y.0 z.0.name ≡ n = ap (number_of s) z.2 ∙ eq-tells (number_of s p) n x.0 in
-    let a : slice_get (words_along s (Some class)) n ≡ Some (word_of y.0 z.0) =
+-- a word that a class declares is the one of its number in objects of classes below
+word-at : (s : Setting) → IsLaidOut s → (class own : ClassId) (n i : ℕ) (found : CoreClass) (w : CoreWord) → is_of s (Some class) (Some own) ≡ true
+    → class_at s own ≡ Some found → slice_get found.words i ≡ Some w → word_number s own w.name ≡ n → slice_get (words_of s class) n ≡ Some w
+word-at s h class own n i found w of is at number =
+    let l : locate own_words s (Some class) (word_number s own w.name) ≡ Some (own, i) =
+    (words-are-located.of_names s h.bases).of_word (Some class) own found i w of is (h.words own found is) at in
+    let a : slice_get (words_along s (Some class)) n ≡ Some (word_of own w) =
     layouts-agree.of_located s h.bases (Some class) n
-    ∙ ap (located_word s) (subst (λ k. locate own_words s (Some class) k ≡ Some (y.0, u.2.0)) is at)
-    ∙ ap (λ c. option_map (word_of y.0) (slice_get (words_by c) u.2.0)) u.1
-    ∙ ap (option_map (word_of y.0)) u.2.1 in
+    ∙ ap (located_word s) (subst (λ k. locate own_words s (Some class) k ≡ Some (own, i)) number l)
+    ∙ ap (λ c. option_map (word_of own) (slice_get (words_by c) i)) is
+    ∙ ap (option_map (word_of own)) at in
     ap (λ ws. slice_get ws n) (sym (layouts-agree.of_machine s class))
     ∙ get-map core_word (words_along s (Some class)) n
     ∙ ap (option_map core_word) a
-    ∙ ap (λ (q : PartWord). Some q.word) z.2
+
+-- a word of a part of an object, by the class that declares it and its position there
+record PartWordIn (s : Setting) (class : ClassId) (n : ℕ) (p : PartWord) : Type 0 where
+  found : CoreClass
+  position : ℕ
+  of : is_of s (Some class) (Some p.class) ≡ true
+  is : class_at s p.class ≡ Some found
+  at : slice_get found.words position ≡ Some p.word
+  number : number_of s p ≡ n
+
+of-class : (s : Setting) (class own : ClassId) (n i j : ℕ) (p : PartWord) → slice_get (line s (Some class)) i ≡ Some own → slice_get (words_with_class s own) j ≡ Some p
+    → number_of s p ≡ n → PartWordIn s class n p
+of-class s class own n i j p e f number =
+    let z = in-map (λ (v : CoreWord). record { class = own; word = v }) (part_words s own) j p f in
+    let u = in-part-by s (class_at s own) z.1.0 z.0 z.1.1 in
+    subst (λ (q : PartWord). number_of s q ≡ n → PartWordIn s class n q) z.2
+    (λ k. record {
+      found = u.0;
+      position = u.2.0;
+      of = any-in (λ (c : ClassId). nat_eq own.0 c.0) (line s (Some class)) i own e (nat-same own.0 own.0 ∙ same-self own.0);
+      is = u.1;
+      at = u.2.1;
+      number = k;
+    }) number
+
+part-word-in : (s : Setting) (class : ClassId) (n : ℕ) (p : PartWord) → part_word_at s (Some class) n ≡ Some p → PartWordIn s class n p
+part-word-in s class n p e =
+    let x = found-in (λ q. nat_eq (number_of s q) n) (words_in_parts s (Some class)) p e in
+    let y = in-flat (words_with_class s) (line s (Some class)) x.1.0 p x.1.1 in
+    of-class s class y.0 n y.1.0 y.2.0 p y.1.1 y.2.1 (eq-tells (number_of s p) n x.0)
+
+laid-out : (s : Setting) → IsLaidOut s → (class : ClassId) (n : ℕ) (p : PartWord) → part_word_at s (Some class) n ≡ Some p → slice_get (words_of s class) n ≡ Some p.word
+laid-out s h class n p e =
+    let x = part-word-in s class n p e in
+    word-at s h class p.class n x.position x.found p.word x.of x.is x.at x.number
 
 -- ---- flips
 

@@ -1,5 +1,5 @@
 -- The verdict of a run is that of all flips that came.
-use Rattle.std.proofs.Common.{◌≡◌, ℕ, zero, suc, min, if◌then◌else◌, List, [], ◌∷◌, ◌++◌, Bool, true, false, not, cond, refl, ap, sym, ◌∙◌, find, Some}
+use Rattle.std.proofs.Common.{◌≡◌, ℕ, zero, suc, min, if◌then◌else◌, List, [], ◌∷◌, ◌++◌, Bool, true, false, not, cond, true≢false, refl, ap, sym, ◌∙◌, find, Some}
 use Rattle.step_machine.specs.Total.{Total}
 use Rattle.fault_model.specs.declared.verdict.Verdict.{Verdict}
 use Rattle.fault_model.specs.declared.verdict.Verdict.TheVariants.{Admissible, First}
@@ -78,7 +78,7 @@ is-first Admissible = false
 is-first (First k) = true
 
 first-not-all : {k : ℕ} → First k ≡ Admissible → ⊥
-first-not-all e = cc (ap is-first e)
+first-not-all e = absurd (true≢false (ap is-first e))
 
 only-all : (cs : List Coming) → verdict_of cs ≡ Admissible → AreAdmissible cs
 only-all [] h = tt

@@ -17,7 +17,6 @@ use Rattle.fault_model.specs.PlanLines.{flip, fault_plan}
 use Rattle.fault_model.specs.Progress as of
 use Rattle.fault_model.specs.Progress.{one_more, with_flip, with_line, still_ahead, after_lines, after_flips}
 use Rattle.step_engine.specs.TurnRuns.{is_running}
-use Rattle.step_engine.specs.Flips as by_engine
 use Rattle.plan_runs.specs.Flips.{falling, flip_of}
 use Rattle.plan_runs.specs.Runs as on
 use Rattle.plan_runs.specs.Runs.{Fallen, with_flips, passed}
@@ -64,11 +63,6 @@ LinesAgree i fs =
     (p : of.Progress) (m : Machine) (n : ℕ) → p.total ≡ reading m → p.flips ≡ n
     → Agree (after_lines i (map flip fs) p) p (with_flips (m, n) (map flip_of (falling fs i))) (later i fs)
 
--- a bit of the list form that the engine tells is the machine's
-fallen-is : (m : Machine) (n : ℕ) (f : PlannedFlip) → on.with_flip (m, n) (flip_of f) ≡ on.fallen n (flipped f.object.0 f.word f.bit m)
-unfolding flipped by_engine.flipped
-fallen-is m n f = refl
-
 flipped-is : (p : of.Progress) (m : Machine) (o w bit : ℕ) → p.total ≡ reading m → flipped_of o w bit p.total ≡ (reading (flipped o w bit m).0, (flipped o w bit m).1)
 flipped-is p m o w bit e = ap (flipped_of o w bit) e ∙ sym (agree.of_flip m o w bit)
 
@@ -78,10 +72,9 @@ lines-step : (i : ℕ) (f : PlannedFlip) (fs : List PlannedFlip) → LinesAgree 
     (with_flips (m, n) (map flip_of (cond b (f ∷ falling fs i) (falling fs i)))) (cond (not b) (f ∷ later i fs) (later i fs))
 lines-step i f fs more p m n e c true =
     let h = flipped-is p m f.object.0 f.word f.bit e in
-    subst (λ r. Agree (after_lines i (map flip fs) (with_flip f p)) p (with_flips r (map flip_of (falling fs i))) (later i fs)) (sym (fallen-is m n f))
-    (more (with_flip f p) (flipped f.object.0 f.word f.bit m).0 (on.counted (flipped f.object.0 f.word f.bit m).1 n)
+    more (with_flip f p) (flipped f.object.0 f.word f.bit m).0 (on.counted (flipped f.object.0 f.word f.bit m).1 n)
     (ap (λ (x : FlippedOf). x.0) h)
-    (ap (λ (x : FlippedOf). one_more x.1 p.flips) h ∙ one-more-is (flipped f.object.0 f.word f.bit m).1 p.flips n c))
+    (ap (λ (x : FlippedOf). one_more x.1 p.flips) h ∙ one-more-is (flipped f.object.0 f.word f.bit m).1 p.flips n c)
 lines-step i f fs more p m n e c false =
     let x = more p m n e c in (x.0, x.1, ap (λ l. flip f ∷ l) x.2, x.3, x.4)
 
