@@ -5,6 +5,7 @@ ghost use Rattle.step_machine.specs.Entries.{entry};
 ghost use Rattle.step_machine.specs.World.{word_at, class_at, variable_at, holder_at};
 ghost use Rattle.step_machine.specs.World.{changed, object_changed, held, with_word, killed};
 ghost use Rattle.step_world.specs.Changes.{lock_of, change_of};
+ghost use Rattle.step_world.specs.Objects.{is_full};
 ghost use Rattle.step_world.specs.Worlds.{empty_world, declared, created, printed};
 
 use crate::change::{Change, Lock};
@@ -171,6 +172,7 @@ impl<H: Heap> World<H> {
     /// Makes the next object, of so many words, all 0. Where the heap is full, this is as without memory.
     pub fn create(&mut self, class: ClassId, words: u32) -> Result<(), Memory>
         ensures ok { OnOk result (self.new ≡ created class words self.old) }
+        ensures room { OnOk result (is_full self.old.objects ≡ false) }
         ensures err { OnErr result (self.new ≡ self.old) }
     {
         match self.heap.create(class, words) {
