@@ -1,4 +1,4 @@
-"""Runs `agxx exec` on each program of cases/runs.txt and cases/stops.txt, and on programs that come to the limits of objects and of output."""
+"""Runs `agxx exec` on each program of cases/runs.txt, cases/stops.txt and cases/inserted.txt, and on programs that come to the limits of objects and of output."""
 
 import concurrent.futures
 import pathlib
@@ -6,7 +6,7 @@ import tempfile
 
 import program
 
-CASES = ("cases/runs.txt", "cases/stops.txt")
+CASES = ("cases/runs.txt", "cases/stops.txt", "cases/inserted.txt")
 INDENT = "    "
 
 LONG = '"' + "a" * 4096 + '"'

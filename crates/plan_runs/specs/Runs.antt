@@ -7,7 +7,7 @@ use Rattle.step_machine.specs.Machine.{Machine, Next, next}
 use Rattle.step_machine.specs.Runs.{Ran, turn_taken, nothing_counted}
 use Rattle.step_engine.specs.TurnRuns.{is_running, run_of, counts_of}
 use Rattle.step_engine.specs.declared.runs.Counts.{Counts}
-use Rattle.step_engine.specs.Flips.{Flipped, flipped}
+use Rattle.step_machine.specs.Flips.{Flipped, flipped}
 use Rattle.plan_runs.specs.declared.flip.Flip.{Flip}
 use Rattle.plan_runs.specs.Flips.{falling, flip_of}
 

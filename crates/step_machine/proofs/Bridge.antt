@@ -1,5 +1,5 @@
 -- A run's state as lists and as functions go the same way.
-use Rattle.std.proofs.Common.{◌≡◌, ℕ, if◌then◌else◌, List, [], ◌∷◌, ◌++◌, length, Bool, true, false, Option, Some, None, slice_get, slice_set, refl, ap, ◌∙◌}
+use Rattle.std.proofs.Common.{◌≡◌, ℕ, zero, suc, if◌then◌else◌, List, [], ◌∷◌, ◌++◌, length, Bool, true, false, Option, Some, None, slice_get, slice_set, refl, ap, ◌∙◌}
 use Rattle.std.proofs.Math.Path.{fun_ext}
 use Rattle.agxx_base.specs.declared.ids.ClassId.{ClassId}
 use Rattle.step_machine.specs.declared.datum.Datum.{Datum}
@@ -9,17 +9,34 @@ use Rattle.step_machine.specs.Frame.{Frame, are_on, any_on}
 use Rattle.step_machine.specs.Effects as on
 use Rattle.step_machine.specs.Effects.{Lock, Change, Turn}
 use Rattle.step_machine.specs.Turn.{Thread, Threads, thread_at, frames_of}
-use Rattle.step_machine.specs.World.{Object, World, word_by, class_by, holder_by, holder_in, class_at, holder_at, variable_at, value_or_null, new_object, with_word, with_holder, killed, changed, held}
+use Rattle.step_machine.specs.World.{Object, World, word_at, word_by, class_by, holder_by, holder_in, class_at, holder_at, variable_at, value_or_null, new_object, with_word, with_holder, killed, changed, held}
 use Rattle.step_machine.specs.Machine.{Machine, reads_of, after, state_after}
 use Rattle.step_machine.specs.Total.{Total, reading, reads, same, upd, upd_lock, busy_in, stored, zero_words, without_object, is_some_class, is_there, held_of, after_of}
+use Rattle.step_machine.specs.Flips.{Flipped, FlippedOf, flipped, flipped_by, flipped_of, flipped_of_by, is_bit, inverted, with_bits, with_bits_of}
 use Rattle.step_machine.proofs.Same.{same-eq, get-set, get-snoc, length-snoc, entry-with}
 use Rattle.step_machine.proofs.Objects.{objects_with, get-with, length-with, kept, lost, dead-word, dead-class, dead-holder, word-stored, holder-set, holder-unset, new-at, new-holder}
 
 -- ---- what is read
 
+-- which of two tests comes first is the same
+either-first : (a b c : Bool) → (if a then true else (if b then true else c)) ≡ (if b then true else (if a then true else c))
+either-first true true c = refl
+either-first true false c = refl
+either-first false true c = refl
+either-first false false c = refl
+
+-- the first of the threads can be looked at first
+busy-first : (frames : ℕ → Thread) (n o : ℕ)
+    → busy_in frames (suc n) o ≡ (if are_on o (frames 0) then true else busy_in (λ t. frames (suc t)) n o)
+busy-first frames zero o = refl
+busy-first frames (suc n) o =
+    ap (λ b. if are_on o (frames (suc n)) then true else b) (busy-first frames n o)
+    ∙ either-first (are_on o (frames (suc n))) (are_on o (frames 0)) (busy_in (λ t. frames (suc t)) n o)
+
 pub busy-is : (ths : Threads) (o : ℕ) → busy_in (thread_at ths) (length ths) o ≡ any_on o ths
 busy-is [] o = refl
-busy-is (fs ∷ ths) o = ap (λ b. if are_on o fs then true else b) (busy-is ths o)
+busy-is (fs ∷ ths) o =
+    busy-first (thread_at (fs ∷ ths)) (length ths) o ∙ ap (λ b. if are_on o fs then true else b) (busy-is ths o)
 
 pub reads-is : (m : Machine) (t : ℕ) → reads (reading m) t ≡ reads_of m.setting m.world t m.threads
 reads-is m t = ap (λ b. record (reads_of m.setting m.world t m.threads) { is_busy = b }) (fun_ext (λ o. busy-is m.threads o))
@@ -192,3 +209,30 @@ after-is m t on.idle = refl
 after-is m t (on.ended z) = refl
 after-is m t (on.halted o class) = refl
 after-is m t (on.stopped cause at) = refl
+
+-- ---- a flip
+
+bits-told : (m : Machine) (o w bits : ℕ) → reading (with_bits o w bits m) ≡ with_bits_of o w bits (reading m)
+bits-told m o w bits = λ i. record (reading m) {
+  word = λ p v. store-word m.world.objects o w bits p v i;
+  class = λ p. left-class (with_word w bits) (λ x. refl) m.world.objects o p i;
+  made = length-with (with_word w bits) m.world.objects o i;
+  holder = λ k. store-holder m.world o w bits k i;
+}
+
+abbrev told-flip : Flipped → FlippedOf
+told-flip f = (reading f.0, f.1)
+
+flip-by : (x : Option ℕ) (m : Machine) (o w bit : ℕ)
+    → told-flip (flipped_by x o w bit m) ≡ flipped_of_by x o w bit (reading m)
+flip-by None m o w bit = refl
+flip-by (Some bits) m o w bit = go (is_bit m.setting (class_at m.world o) w bit)
+  where
+    go : (b : Bool) → told-flip (if b then (with_bits o w (inverted bits bit) m, true) else (m, false))
+        ≡ (if b then (with_bits_of o w (inverted bits bit) (reading m), true) else (reading m, false))
+    go true = ap (λ x. (x, true)) (bits-told m o w (inverted bits bit))
+    go false = refl
+
+pub flip-is : (m : Machine) (o w bit : ℕ) → (reading (flipped o w bit m).0, (flipped o w bit m).1) ≡ flipped_of o w bit (reading m)
+unfolding flipped flipped_of
+flip-is m o w bit = flip-by (word_at m.world o w) m o w bit

@@ -15,7 +15,7 @@ use Rattle.step_machine.specs.Machine.{Machine, Next, reads_of, kind_of, put_at,
 use Rattle.step_machine.specs.Total.{NextOf, reading, after_of, reads, same, upd, off_thread, off_item, landed_of, turn_of, next_if}
 use Rattle.step_machine.specs.Bridge.{ListsAndFunctionsAgree}
 use Rattle.step_machine.proofs.Same.{same-self, get-set}
-use Rattle.step_machine.proofs.Bridge.{reads-is, after-is, put-is}
+use Rattle.step_machine.proofs.Bridge.{reads-is, after-is, put-is, flip-is}
 
 abbrev told : Next → NextOf
 told n = (reading n.0, n.1)
@@ -100,4 +100,4 @@ next-told (state.Halted o class) m t = refl
 next-told state.Lost m t = refl
 
 pub agree : ListsAndFunctionsAgree
-agree = record { of_reads = reads-is; of_after = after-is; of_next = λ m t. next-told m.state m t }
+agree = record { of_reads = reads-is; of_after = after-is; of_next = λ m t. next-told m.state m t; of_flip = flip-is }

@@ -43,7 +43,7 @@ abbrev pub expr : Setting → Reads → CoreExpr → Frame → Act
 expr s r (c.number v) f = stays (pushed (datum.Number v) f)
 expr s r c.null f = stays (pushed datum.Null f)
 expr s r (c.this class) f = stays (pushed (this_by f.this) f)
-expr s r (c.read l) f = members.read s r.variable r.word l f
+expr s r (c.read l) f = members.read s r l f
 expr s r (c.address name class) f = stays (pushed (to_object (global_object s name)) f)
 expr s r (c.unary at o t a) f = has (it.expr a ∷ it.op_one at o ∷ f.items) f
 expr s r (c.binary at o t u a b) f = has (it.expr a ∷ it.expr b ∷ it.op_two at o ∷ f.items) f
@@ -111,7 +111,7 @@ act s r t (it.short is_and e) f = values.short is_and e f
 act s r t it.truth f = values.truth f
 act s r t it.drop f = values.drop f
 act s r t (it.bind name u) f = values.bind name u f
-act s r t (it.put l) f = members.put s r.variable r.word l f
+act s r t (it.put l) f = members.put s r l f
 act s r t (it.keep u) f = values.keep u f
 act s r t (it.print at) f = members.prints r.printed at f
 act s r t (it.show at text) f = members.shows r.printed at text f

@@ -7,7 +7,7 @@ use Rattle.cxx_core.specs.CoreExpr.{CoreObject, CoreCallee}
 use Rattle.cxx_core.specs.CoreProgram.{CoreFunction}
 use Rattle.step_machine.specs.declared.outcome.Stop.TheVariants as stop
 use Rattle.step_machine.specs.Data.{first, rest, object_of}
-use Rattle.step_machine.specs.Setting.{Setting, function_at, global_object}
+use Rattle.step_machine.specs.Setting.{Setting, function_at, global_object, is_of}
 use Rattle.step_machine.specs.Item as it
 use Rattle.step_machine.specs.Item.{Ending}
 use Rattle.step_machine.specs.Frame.{Frame, Binding, arguments, ending_by}
@@ -16,9 +16,13 @@ use Rattle.step_machine.specs.Effects.{Act, goes, stops, stays}
 use Rattle.step_machine.specs.ActEnter.{enter}
 
 module _ (s : Setting) (depth : ℕ) (class : ℕ → Option ClassId) where
+  -- an object without such a function is none that an accepted program comes to
   abbrev pub call_on : ℕ → Place → CoreFunction → ℕ → Option ClassId → Binding → Frame → Act
   call_on g at function o None b f = stops stop.Dead at
-  call_on g at function o (Some live) b f = enter s depth g at function (Some o) (ending_by function.result) b f
+  call_on g at function o (Some live) b f =
+      if is_of s (Some live) function.class
+      then enter s depth g at function (Some o) (ending_by function.result) b f
+      else stays f
 
   abbrev pub call_at : ℕ → Place → CoreFunction → Option ℕ → Binding → Frame → Act
   call_at g at function None b f = stops stop.Null at

@@ -1,7 +1,8 @@
 -- Items that read or write variables, members and the output.
-use Rattle.std.specs.Prelude.{ℕ, ◌+◌, nat_le, List, length, Option, Some, None, if◌then◌else◌}
+use Rattle.std.specs.Prelude.{ℕ, ◌+◌, nat_le, Bool, false, not, List, length, Option, Some, None, if◌then◌else◌}
 use Rattle.std.specs.Fmt.{signed_decimal}
 pub use Rattle.agxx_base.specs.Sizes.{output_limit}
+use Rattle.agxx_base.specs.declared.ids.ClassId.{ClassId}
 use Rattle.agxx_base.specs.declared.kind.NumKind.{NumKind}
 use Rattle.agxx_base.specs.declared.place.Place.{Place}
 use Rattle.cxx_arith.specs.Numbers.{number}
@@ -12,10 +13,11 @@ use Rattle.step_machine.specs.declared.datum.Datum.{Datum}
 use Rattle.step_machine.specs.declared.outcome.Stop.TheVariants as stop
 use Rattle.step_machine.specs.Data.{as_number, object_of, converted, bits_of, from_bits_of, zero_of}
 use Rattle.step_machine.specs.Entries.{entry}
-use Rattle.step_machine.specs.Setting.{Setting, word_number, global_object}
+use Rattle.step_machine.specs.Setting.{Setting, word_number, global_object, is_of}
 use Rattle.step_machine.specs.Frame.{Frame, pushed, popped, top, bound}
 use Rattle.step_machine.specs.Effects as on
 use Rattle.step_machine.specs.Effects.{Act, goes, stops, stays}
+use Rattle.step_machine.specs.Reads.{Reads}
 
 -- ---- variables
 
@@ -40,6 +42,16 @@ object_now s variable f c.by_this = f.this
 object_now s variable f (c.by_object name class) = Some (global_object s name)
 object_now s variable f (c.by_pointer v) = object_of (variable_now variable f v)
 
+-- the class of an object that is meant, while it is live
+abbrev pub class_now : (ℕ → Option ClassId) → Option ℕ → Option ClassId
+class_now class None = None
+class_now class (Some o) = class o
+
+-- whether a live object has no members of a class, which no accepted program comes to
+abbrev pub is_other : Setting → ClassId → Option ClassId → Bool
+is_other s class None = false
+is_other s class (Some live) = not (is_of s (Some live) (Some class))
+
 abbrev pub read_word : Place → NumKind → Option ℕ → Frame → Act
 read_word at k None f = stops stop.Dead at
 read_word at k (Some bits) f = stays (pushed (from_bits_of k bits) f)
@@ -56,14 +68,23 @@ abbrev pub put_member : (ℕ → ℕ → Option ℕ) → Place → NumKind → �
 put_member word at k w None f = stops stop.Null at
 put_member word at k w (Some o) f = put_word at k o w (word o w) f
 
-module _ (s : Setting) (variable : ℕ → Datum) (word : ℕ → ℕ → Option ℕ) where
+module _ (s : Setting) (r : Reads) where
+  -- of an object that is meant
+  abbrev pub read_of : Place → ClassId → ℕ → NumKind → Option ℕ → Frame → Act
+  read_of at class name k o f =
+      if is_other s class (class_now r.class o) then stays f else read_member r.word at k (word_number s class name) o f
+
+  abbrev pub put_of : Place → ClassId → ℕ → NumKind → Option ℕ → Frame → Act
+  put_of at class name k o f =
+      if is_other s class (class_now r.class o) then stays f else put_member r.word at k (word_number s class name) o f
+
   abbrev pub read : CoreLeft → Frame → Act
-  read (c.variable v) f = stays (pushed (variable_now variable f v) f)
-  read (c.member at o class name k) f = read_member word at k (word_number s class name) (object_now s variable f o) f
+  read (c.variable v) f = stays (pushed (variable_now r.variable f v) f)
+  read (c.member at o class name k) f = read_of at class name k (object_now s r.variable f o) f
 
   abbrev pub put : CoreLeft → Frame → Act
   put (c.variable v) f = put_variable v f
-  put (c.member at o class name k) f = put_member word at k (word_number s class name) (object_now s variable f o) f
+  put (c.member at o class name k) f = put_of at class name k (object_now s r.variable f o) f
 
 -- ---- output
 

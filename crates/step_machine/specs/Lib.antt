@@ -19,6 +19,7 @@ pub mod Machine
 pub mod Start
 pub mod Runs
 pub mod Total
+pub mod Flips
 pub mod Laws
 pub mod Bridge
 pub mod Examples

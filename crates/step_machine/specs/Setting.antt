@@ -1,6 +1,6 @@
 -- What a machine is set to run, and what it finds there: functions, classes, words, mutexes and objects by their numbers.
 use Rattle.std.specs.Prelude.{ℕ, zero, suc, ◌+◌, nat_eq, Bool, false, List, [], ◌∷◌, length, Option, Some, None, slice_get, codes, sum_by, if◌then◌else◌}
-use Rattle.std.specs.List.{position_or_len, starts_with}
+use Rattle.std.specs.List.{position_or_len, starts_with, list_any}
 use Rattle.agxx_base.specs.declared.ids.ClassId.{ClassId}
 use Rattle.cxx_core.specs.CoreProgram as cp
 use Rattle.cxx_core.specs.CoreProgram.{CoreFunction, CoreWord, CoreClass, CoreGlobal, CoreProgram}
@@ -60,6 +60,28 @@ chain classes (suc n) (Some class) = linked (λ c. chain classes n c) (slice_get
 -- a class, if there is one, and those above it
 abbrev pub lineage : Setting → Option ClassId → List CoreClass
 lineage s class = chain s.program.classes (length s.program.classes) class
+
+-- the same by their numbers
+abbrev pub linked_ids : (Option ClassId → List ClassId) → ClassId → Option CoreClass → List ClassId
+linked_ids above class None = []
+linked_ids above class (Some found) = class ∷ above found.base
+
+abbrev pub line_in : List CoreClass → ℕ → Option ClassId → List ClassId
+line_in classes zero class = []
+line_in classes (suc n) None = []
+line_in classes (suc n) (Some class) = linked_ids (λ b. line_in classes n b) class (slice_get classes class.0)
+
+abbrev pub line : Setting → Option ClassId → List ClassId
+line s class = line_in s.program.classes (length s.program.classes) class
+
+abbrev pub stands_in : Option ClassId → List ClassId → Bool
+stands_in None classes = false
+stands_in (Some class) classes = list_any (λ c. nat_eq class.0 c.0) classes
+
+-- whether objects of a class, the first, have the members and functions of another: whether that is the class itself or one
+-- above it
+abbrev pub is_of : Setting → Option ClassId → Option ClassId → Bool
+is_of s own class = stands_in class (line s own)
 
 -- how many words, and how many mutexes, an object of a class has
 abbrev pub word_count : Setting → Option ClassId → ℕ

@@ -67,10 +67,10 @@ same_lock _ _ = false
 
 -- ---- what a step of thread t reads, whose running frame is off
 
--- whether one of the first threads has a frame of the object
+-- whether one of so many threads, the first ones, has a frame of the object
 abbrev pub busy_in : (ℕ → Thread) → ℕ → ℕ → Bool
 busy_in frames zero o = false
-busy_in frames (suc n) o = if are_on o (frames 0) then true else busy_in (λ t. frames (suc t)) n o
+busy_in frames (suc n) o = if are_on o (frames n) then true else busy_in frames n o
 
 abbrev pub reads : Total → ℕ → Reads
 reads m t = record {

@@ -9,7 +9,7 @@ ghost use Rattle.step_machine.specs.Inserted as inserted;
 
 use crate::places::Places;
 use crate::tables::{
-    ClassTable, class_at, class_tables, mutex_at, object_places, sizes_at, word_at,
+    ClassTable, class_at, class_tables, mutex_at, object_places, sizes_at, stands_upwards, word_at,
 };
 use crate::texts;
 use agxx_base::{ClassId, FnId, ListOf, Memory, NameId, Names};
@@ -115,6 +115,18 @@ impl<'p> Setting<'p> {
                 None => None,
                 Some(function) => function.class,
             },
+        }
+    }
+
+    /// Whether objects of a class have the members and functions of another, if there is one: whether that is the class
+    /// itself or one above it. This takes the time of the classes between them.
+    pub fn is_of(&self, own: ClassId, class: Option<ClassId>) -> bool
+        ensures { result ≡ spec.is_of self.now (Some own) class }
+    {
+        let classes = self.program.classes.as_slice();
+        match class {
+            None => false,
+            Some(class) => stands_upwards(classes, classes.len(), Some(own), class),
         }
     }
 

@@ -1,9 +1,9 @@
 //! The tables that look-ups read.
 
-ghost use Rattle.std.specs.Prelude.{◌≡◌, map, IfOk, OnOk, option_map, slice_get};
+ghost use Rattle.std.specs.Prelude.{◌≡◌, Some, map, IfOk, OnOk, option_map, slice_get};
 ghost use Rattle.std.specs.Option.{option_copied};
 ghost use Rattle.cxx_core.specs.ProgramView.{word_core, name_core, class_core, global_core};
-ghost use Rattle.step_machine.specs.Setting.{chain};
+ghost use Rattle.step_machine.specs.Setting.{chain, line_in, stands_in};
 ghost use Rattle.step_setting.specs.Places.{places, with_places, no_places};
 ghost use Rattle.step_setting.specs.Tables as spec;
 
@@ -83,6 +83,33 @@ fn sizes_upwards(
         next = class.base;
     }
     Ok(found)
+}
+
+/// Whether a class is another, if there is one, or stands above it, so many classes at most.
+pub(crate) fn stands_upwards(
+    classes: &[Class],
+    steps: usize,
+    own: Option<ClassId>,
+    class: ClassId,
+) -> bool
+    ensures { result ≡ stands_in (Some class) (line_in (map class_core classes.now) steps own) }
+{
+    let mut next = own;
+    let mut left = steps;
+    while left > 0 {
+        left -= 1;
+        let Some(number) = next else {
+            return false;
+        };
+        let Some(found) = class_at(classes, number) else {
+            return false;
+        };
+        if class.0 == number.0 {
+            return true;
+        }
+        next = found.base;
+    }
+    false
 }
 
 fn places_of_words(alloc: Heap, start: u32, words: &[Word]) -> Result<Places, Memory>

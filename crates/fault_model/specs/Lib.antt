@@ -1,0 +1,13 @@
+pub mod Parts
+pub mod Inside
+pub mod Engaged
+pub mod PlanLines
+pub mod Admissible
+pub mod Progress
+pub mod Exact
+pub mod Cost
+pub mod Comings
+pub mod Laws
+pub mod Example
+pub mod SourceExample
+pub mod LaidOut

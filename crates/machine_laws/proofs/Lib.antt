@@ -1,0 +1,16 @@
+pub mod Lists
+pub mod Lines
+pub mod Bases
+pub mod Locates
+pub mod Along
+pub mod LaidOut
+pub mod Layouts
+pub mod Holding
+pub mod Entering
+pub mod Acts
+pub mod MemberWidths
+pub mod Fits
+pub mod MemberKinds
+pub mod Elaborated
+pub mod ElaboratedPrograms
+pub mod Widths

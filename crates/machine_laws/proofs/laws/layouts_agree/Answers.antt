@@ -1,0 +1,5 @@
+use Rattle.machine_laws.proofs.Layouts.{layouts-agree}
+use Rattle.machine_laws.proofs.laws.layouts_agree.Goals as goal
+
+pub returns : goal.returns
+returns c = layouts-agree
