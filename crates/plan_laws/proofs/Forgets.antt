@@ -17,7 +17,6 @@ use Rattle.fault_model.specs.PlanLines.{flip, fault_plan}
 use Rattle.fault_model.specs.Progress as of
 use Rattle.fault_model.specs.Progress.{one_more, with_flip, with_line, still_ahead, after_lines, after_flips}
 use Rattle.step_engine.specs.TurnRuns.{is_running}
-use Rattle.step_engine.specs.Flips as by_engine
 use Rattle.plan_runs.specs.Flips.{falling, flip_of}
 use Rattle.plan_runs.specs.Runs as on
 use Rattle.plan_runs.specs.Runs.{Fallen, with_flips, passed}
@@ -66,7 +65,7 @@ LinesAgree i fs =
 
 -- a bit of the list form that the engine tells is the machine's
 fallen-is : (m : Machine) (n : ℕ) (f : PlannedFlip) → on.with_flip (m, n) (flip_of f) ≡ on.fallen n (flipped f.object.0 f.word f.bit m)
-unfolding flipped by_engine.flipped
+unfolding flipped
 fallen-is m n f = refl
 
 flipped-is : (p : of.Progress) (m : Machine) (o w bit : ℕ) → p.total ≡ reading m → flipped_of o w bit p.total ≡ (reading (flipped o w bit m).0, (flipped o w bit m).1)

@@ -5,4 +5,3 @@ pub mod Families
 pub mod Turns
 pub mod Starts
 pub mod TurnRuns
-pub mod Flips

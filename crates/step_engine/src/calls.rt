@@ -54,7 +54,13 @@ fn call_on<'p, H: Heap>(
         None => Ok(Effect::Stop(Stop::Null, callee.at)),
         Some(this) => match turning.class(this) {
             None => Ok(Effect::Stop(Stop::Dead, callee.at)),
-            Some(_) => enter(turning, entry_of(callee, function, Some(this)), frame),
+            Some(live) => {
+                if turning.setting.is_of(live, function.class) {
+                    enter(turning, entry_of(callee, function, Some(this)), frame)
+                } else {
+                    Ok(Effect::Stay)
+                }
+            }
         },
     }
 }
@@ -74,7 +80,13 @@ fn call_pointed<'p, H: Heap>(
         None => Ok(Effect::Stop(Stop::Null, callee.at)),
         Some(this) => match turning.class(this) {
             None => Ok(Effect::Stop(Stop::Dead, callee.at)),
-            Some(_) => enter_pointed(turning, entry_of(callee, function, Some(this)), frame),
+            Some(live) => {
+                if turning.setting.is_of(live, function.class) {
+                    enter_pointed(turning, entry_of(callee, function, Some(this)), frame)
+                } else {
+                    Ok(Effect::Stay)
+                }
+            }
         },
     }
 }

@@ -4,8 +4,8 @@ ghost use Rattle.std.specs.Prelude.{◌≡◌, ◌<◌, ◌≤◌, map, option_m
 ghost use Rattle.std.specs.Option.{option_copied};
 ghost use Rattle.cxx_arith.specs.Kinds as kinds;
 ghost use Rattle.cxx_core.specs.ProgramView.{class_core};
+ghost use Rattle.step_machine.specs.Flips as spec;
 ghost use Rattle.step_machine.specs.Setting.{chain};
-ghost use Rattle.step_engine.specs.Flips as spec;
 
 use crate::engine::Engine;
 use agxx_base::{ClassId, Memory, NumKind, ObjectId};
@@ -121,7 +121,7 @@ impl<'p, H: Heap> Engine<'p, H> {
 
     /// Inverts a bit where the object is live, has such a word and the bit is one of it, and tells whether it did.
     /// After `Memory` the run is lost.
-    #[tactic(auto, unfolding(crate::specs::Flips::flipped))]
+    #[tactic(auto, unfolding(step_machine::specs::Flips::flipped))]
     pub fn flip(&mut self, object: ObjectId, word: u32, bit: u32) -> Result<bool, Memory>
         ensures ok { IfOk result (λ changes.
             (self.new, changes) ≡ spec.flipped object.0 word bit self.old) }

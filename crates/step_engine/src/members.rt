@@ -79,6 +79,9 @@ fn read_member<'p, H: Heap>(
     match object_now(turning, frame, member.object) {
         None => Ok(Effect::Stop(Stop::Null, member.at)),
         Some(object) => {
+            if turning.is_other(member.class, object) {
+                return Ok(Effect::Stay);
+            }
             let word = turning.setting.word_number(member.class, member.name);
             read_word(member.at, member.kind, turning.world.word(object, word), frame)
         }
@@ -162,6 +165,9 @@ fn put_member<'p, H: Heap>(
     match object_now(turning, frame, member.object) {
         None => Effect::Stop(Stop::Null, member.at),
         Some(object) => {
+            if turning.is_other(member.class, object) {
+                return Effect::Stay;
+            }
             let word = turning.setting.word_number(member.class, member.name);
             put_word(turning.world, member.at, member.kind, object, word, frame)
         }

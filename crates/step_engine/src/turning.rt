@@ -3,6 +3,7 @@
 ghost use Rattle.std.specs.Prelude.{◌≡◌, length, option_map};
 ghost use Rattle.std.specs.Option.{option_copied};
 ghost use Rattle.cxx_core.specs.ProgramView.{function_core};
+ghost use Rattle.step_machine.specs.ActMembers.{is_other};
 ghost use Rattle.step_machine.specs.Frame.{any_on};
 ghost use Rattle.step_machine.specs.Setting.{function_at, global_object};
 ghost use Rattle.step_machine.specs.Turn.{has_ended, thread_at};
@@ -93,6 +94,17 @@ impl<'a, 'p, H: Heap> Turning<'a, 'p, H> {
         ensures { result.0 ≡ global_object self.now.setting name.0 }
     {
         ObjectId(self.setting.global_object(name))
+    }
+
+    /// Whether a live object has no members of a class.
+    pub(crate) fn is_other(&self, class: ClassId, object: ObjectId) -> bool
+        ensures { result ≡
+            is_other self.now.setting class (class_at self.now.world object.0) }
+    {
+        match self.world.class(object) {
+            None => false,
+            Some(live) => !self.setting.is_of(live, Some(class)),
+        }
     }
 
     /// The class of a live object.
