@@ -8,7 +8,9 @@ use Rattle.step_frame.specs.declared.work.Work.{Work}
 use Rattle.step_frame.specs.Works.{item_of}
 use Rattle.step_machine.specs.Turn.{Threads, put_back}
 use Rattle.step_frame.specs.Threads.{has_items, are_some}
-use Rattle.step_engine.specs.Turns.{acted, turn_taken}
+use Rattle.step_engine.specs.Turning.{Turning}
+use Rattle.step_engine.specs.Steps.{acted}
+use Rattle.step_engine.specs.Turns.{Took, TookOff, turn_taken}
 use Rattle.step_machine.specs.Setting.{Setting}
 use Rattle.step_machine.specs.World.{World}
 use Rattle.step_machine.specs.Effects as on
@@ -39,10 +41,6 @@ off-some t ths old i f fs e p = ap (off_at t ths) (e ∙ ap Some p)
 pub idle : (t : ℕ) (ths : Threads) (old new : List Frame) → slice_get ths t ≡ Some old → (new ≡ old) × (has_items old ≡ false) → (slice_set ths t new ≡ ths) × (taken_off t ths ≡ None)
 idle t ths old new e p = (ap (slice_set ths t) p.0 ∙ set-same t ths old e, off-none t ths old e p.1)
 
--- what `take` answered
-abbrev pub Took : List Frame → List Frame → Option (Frame × Work) → Type 0
-Took old new o = MatchOption o ((new ≡ old) × (has_items old ≡ false)) (λ r. old ≡ put_back (item_of r.1) r.0 ∷ new)
-
 pub took-some : (old new : List Frame) (o : Option (Frame × Work)) (r : Frame × Work) → Took old new o → o ≡ Some r → old ≡ put_back (item_of r.1) r.0 ∷ new
 took-some old new o r m e = subst (Took old new) e m
 
@@ -54,22 +52,22 @@ pub turn-idle : (s : Setting) (w : World) (t : ℕ) (ths : Threads) → taken_of
 unfolding turn_taken
 turn-idle s w t ths h = sym (ap (turn_off s w t ths) h)
 
+-- what the turn works on
+abbrev pub turning : Setting → World → ℕ → Threads → Turning
+turning s w t rest = record { setting = s; world = w; threads = rest; thread = t }
+
 -- the turn of a thread whose item was taken off
 turned-is : (s : Setting) (w : World) (t : ℕ) (ths rest : Threads) (f : Frame) (i : Item) → taken_off t ths ≡ Some (f, i, rest)
-    → put_at t rest (is_inserted s i f) (slice_get rest t) i (acted s w rest t i f) ≡ turn_taken s w t ths
+    → put_at t rest (is_inserted s i f) (slice_get rest t) i (acted (turning s w t rest) i f) ≡ turn_taken s w t ths
 unfolding acted turn_taken
 turned-is s w t ths rest f i h = sym (ap (turn_off s w t ths) h)
-
--- what `take_off` answered
-abbrev pub TookOff : ℕ → Threads → Threads → Option (Frame × Work) → Type 0
-TookOff t ths rest o = MatchOption o ((rest ≡ ths) × (taken_off t ths ≡ None)) (λ r. taken_off t ths ≡ Some (r.0, item_of r.1, rest))
 
 took-off : (t : ℕ) (ths rest : Threads) (o : Option (Frame × Work)) (f : Frame) (w : Work) → TookOff t ths rest o → o ≡ Some (f, w) → taken_off t ths ≡ Some (f, item_of w, rest)
 took-off t ths rest o f w m e = subst (TookOff t ths rest) e m
 
 -- the turn of a thread whose frames are put back
 pub turned-ok : {E : Type 0} (s : Setting) (w : World) (t : ℕ) (ths rest new : Threads) (o : Option (Frame × Work)) (f : Frame) (work : Work) (inserted : Bool) (d : Did) (result : Result (Turn × Bool) E)
-    → TookOff t ths rest o → o ≡ Some (f, work) → inserted ≡ is_inserted s (item_of work) f → d ≡ acted s w rest t (item_of work) f
+    → TookOff t ths rest o → o ≡ Some (f, work) → inserted ≡ is_inserted s (item_of work) f → d ≡ acted (turning s w t rest) (item_of work) f
     → IfOk result (λ r. ◌≡◌ {A = Turned} (new, turn_of r.0, r.1) (put_at t rest inserted (slice_get rest t) (item_of work) d))
     → IfOk result (λ r. ◌≡◌ {A = Turned} (new, turn_of r.0, r.1) (turn_taken s w t ths))
 turned-ok s w t ths rest new o f work inserted d (Ok r) m e i h p =

@@ -4,7 +4,7 @@ use Rattle.std.proofs.lemmas.List.Sums.{sum_by-cons}
 use Rattle.agxx_base.specs.declared.ids.ClassId.{ClassId}
 use Rattle.cxx_core.specs.CoreProgram.{CoreClass}
 use Rattle.step_machine.specs.Setting.{chain, linked}
-use Rattle.step_engine.specs.Flips.{words_in, word_count}
+use Rattle.step_machine.specs.Flips.{words_in, word_count}
 
 get_low : {X : Type 0} (xs ys : List X) (w : ℕ) → w < length xs → slice_get (xs ++ ys) w ≡ slice_get xs w
 get_low [] ys w h = absurd (omega arith)

@@ -1,5 +1,5 @@
 -- What a run finds at its start, global by global.
-use Rattle.std.specs.Prelude.{ℕ, List, [], ◌∷◌, ◌++◌, Some, is_some, if◌then◌else◌}
+use Rattle.std.specs.Prelude.{ℕ, suc, List, [], ◌∷◌, ◌++◌, Some, is_some, if◌then◌else◌}
 use Rattle.cxx_core.specs.CoreProgram as cp
 use Rattle.cxx_core.specs.CoreProgram.{CoreGlobal}
 use Rattle.step_machine.specs.declared.datum.Datum.{Datum}
@@ -8,6 +8,12 @@ use Rattle.step_machine.specs.Entries.{entry}
 use Rattle.step_machine.specs.Setting.{Setting, word_count}
 use Rattle.step_machine.specs.World.{World}
 use Rattle.step_world.specs.Worlds.{created}
+
+-- how many global objects there are
+abbrev pub object_count : List CoreGlobal → ℕ
+object_count [] = 0
+object_count (cp.object at name class arguments ∷ gs) = suc (object_count gs)
+object_count (_ ∷ gs) = object_count gs
 
 -- of several variables of one name the first counts
 abbrev pub with_variable : ℕ → Datum → World → World

@@ -1,44 +1,29 @@
 //! What an item does that was taken off a frame.
 
-ghost use Rattle.std.specs.Prelude.{◌≡◌, IfOk, option_map};
+ghost use Rattle.std.specs.Prelude.{◌≡◌, true, IfOk, option_map};
 ghost use Rattle.cxx_arith.specs.Numbers as numbers;
 ghost use Rattle.cxx_core.specs.ExprView.{expr_core};
 ghost use Rattle.cxx_core.specs.StmtView.{stmt_core};
 ghost use Rattle.step_machine.specs.Act as spec;
 ghost use Rattle.step_machine.specs.Data as datums;
-ghost use Rattle.step_machine.specs.Effects.{did};
-ghost use Rattle.step_machine.specs.Frame.{depth_of};
 ghost use Rattle.step_machine.specs.Item as it;
-ghost use Rattle.step_machine.specs.Machine.{reads_of};
-ghost use Rattle.step_machine.specs.Turn.{thread_at};
 ghost use Rattle.step_frame.specs.Works.{item_of, number_of};
-ghost use Rattle.step_engine.specs.Effects.{effect_of};
-ghost use Rattle.step_engine.specs.Turns.{acted};
+ghost use Rattle.step_engine.specs.Families.{goes_on};
+ghost use Rattle.step_engine.specs.Steps.{IsStep};
 
 use crate::calls::{call, end, leave};
 use crate::effect::{Effect, local};
-use crate::enter::{enter_on, run};
+use crate::enter::{enter_base, run};
 use crate::members::{print, put, read, show};
 use crate::objects::{build, delete, make, new, unmake};
 use crate::threads::{join, lock, spawn, unlock};
-use agxx_base::{ClassId, Memory, NumKind, ObjectId, Place};
+use crate::turning::Turning;
+use agxx_base::{Memory, NumKind, ObjectId};
 use cxx_arith::{Value, convert, number};
 use cxx_core::{Expr, Stmt};
-use std::alloc::Global;
-use step_frame::{Frame, Thread, Work, as_number};
+use step_frame::{Frame, Work, as_number};
 use step_machine::Datum;
-use step_setting::Setting;
-use step_world::{Heap, World};
-
-/// How many counted frames a thread has.
-pub(crate) fn depth_at(threads: &[Thread], thread: u32) -> usize
-    ensures { result ≡ depth_of (thread_at threads.now thread) }
-{
-    match threads.get(thread as usize) {
-        None => 0,
-        Some(thread) => thread.depth(),
-    }
-}
+use step_world::Heap;
 
 fn this_by(this: Option<ObjectId>) -> Datum
     ensures { result ≡ spec.this_by (option_map number_of this) }
@@ -50,24 +35,23 @@ fn this_by(this: Option<ObjectId>) -> Datum
 }
 
 /// The first step of an expression.
+#[tactic(auto, unfolding(crate::specs::Steps::acted))]
 fn expr<'p, H: Heap>(
-    setting: &Setting<'p>,
-    world: &World<H>,
-    threads: &[Thread<'p>],
-    thread: u32,
+    turning: &Turning<'_, 'p, H>,
     value: &'p Expr,
     frame: &mut Frame<'p>,
 ) -> Result<Effect<'p>, Memory>
-    ensures { IfOk result (λ effect. (frame.new, effect_of effect) ≡ did frame.old (spec.expr setting.now (reads_of setting.now world.now thread threads.now) (expr_core value.now) frame.old)) }
+    ensures { IfOk result (λ effect.
+        IsStep turning.now (it.expr (expr_core value.now)) frame.old frame.new effect) }
 {
     match value {
         Expr::Number(value) => Ok(local(frame.push_value(Datum::Number(*value))?)),
         Expr::Null => Ok(local(frame.push_value(Datum::Null)?)),
         Expr::This(_) => Ok(local(frame.push_value(this_by(frame.this))?)),
-        Expr::Read(left) => read(setting, world, *left, frame),
+        #[tactic(auto)]
+        Expr::Read(left) => read(turning, *left, frame),
         Expr::Address(name, _) => {
-            let object = ObjectId(setting.global_object(*name));
-            Ok(local(frame.push_value(Datum::Pointer(object))?))
+            Ok(local(frame.push_value(Datum::Pointer(turning.global_object(*name)))?))
         }
         Expr::Unary(at, op, _, operand) => Ok(local(frame.unary(*at, *op, operand.get())?)),
         Expr::Binary(at, op, _, _, left, right) => {
@@ -97,15 +81,14 @@ fn zero() -> Datum
 }
 
 /// The first step of a statement.
+#[tactic(auto, unfolding(crate::specs::Steps::acted))]
 fn stmt<'p, H: Heap>(
-    setting: &Setting<'p>,
-    world: &World<H>,
-    threads: &[Thread<'p>],
-    thread: u32,
+    turning: &Turning<'_, 'p, H>,
     statement: &'p Stmt,
     frame: &mut Frame<'p>,
 ) -> Result<Effect<'p>, Memory>
-    ensures { IfOk result (λ effect. (frame.new, effect_of effect) ≡ did frame.old (spec.stmt setting.now (reads_of setting.now world.now thread threads.now) thread (stmt_core statement.now) frame.old)) }
+    ensures { IfOk result (λ effect.
+        IsStep turning.now (it.stmt (stmt_core statement.now)) frame.old frame.new effect) }
 {
     match statement {
         Stmt::Block(body) => Ok(local(frame.block(body.as_slice())?)),
@@ -117,9 +100,12 @@ fn stmt<'p, H: Heap>(
             Ok(local(frame.update(*at, *op, *left, value.get())?))
         }
         Stmt::Run(call) => Ok(local(frame.run(call.get())?)),
-        Stmt::Join(at, name) => Ok(join(threads, *at, *name, frame)),
-        Stmt::Lock(at, mutex) => Ok(lock(setting, world, thread, *at, *mutex, frame)),
-        Stmt::Unlock(at, mutex) => Ok(unlock(setting, world, thread, *at, *mutex, frame)),
+        #[tactic(auto)]
+        Stmt::Join(at, name) => Ok(join(turning, *at, *name, frame)),
+        #[tactic(auto)]
+        Stmt::Lock(at, mutex) => Ok(lock(turning, *at, *mutex, frame)),
+        #[tactic(auto)]
+        Stmt::Unlock(at, mutex) => Ok(unlock(turning, *at, *mutex, frame)),
         Stmt::Branch(condition, yes, otherwise) => {
             let branch = Work::Branch(yes.as_slice(), otherwise.as_slice());
             Ok(local(frame.evaluate(condition.get(), branch)?))
@@ -149,7 +135,9 @@ fn stmt<'p, H: Heap>(
         Stmt::Thread(at, name, function, _, arguments) => {
             Ok(local(frame.evaluate_all(arguments.as_slice(), Work::Spawn(*at, *name, *function))?))
         }
-        Stmt::Abort => Ok(Effect::Halt(frame.this, setting.class_of_function(frame.function))),
+        Stmt::Abort => {
+            Ok(Effect::Halt(frame.this, turning.setting.class_of_function(frame.function)))
+        },
         Stmt::Wrong(_) => Ok(Effect::Stay),
     }
 }
@@ -162,59 +150,22 @@ fn exit_value(datum: Datum) -> i32
     number(convert(NumKind::I32, as_number(datum))) as i32
 }
 
-/// `delete`, with as many frames below as the thread has.
-fn act_delete<'p, H: Heap>(
-    alloc: Global,
-    setting: &Setting<'p>,
-    world: &World<H>,
-    threads: &[Thread<'p>],
-    thread: u32,
-    at: Place,
-    class: ClassId,
-    frame: &mut Frame<'p>,
-) -> Result<Effect<'p>, Memory>
-    ensures { IfOk result (λ effect. (frame.new, effect_of effect) ≡ acted setting.now world.now threads.now thread (it.delete at class) frame.old) }
-{
-    let depth = depth_at(threads, thread);
-    delete(alloc, setting, world, threads, depth, at, class, frame)
-}
-
-/// What an item does that was taken off a frame.
-#[tactic(auto, unfolding(crate::specs::Turns::acted))]
-pub(crate) fn act<'p, H: Heap>(
-    alloc: Global,
-    setting: &Setting<'p>,
-    world: &World<H>,
-    threads: &[Thread<'p>],
-    thread: u32,
+/// Does an item that works on the values of its frame, or goes on there or leaves it.
+#[tactic(auto, unfolding(crate::specs::Steps::acted))]
+fn go_on<'p, H: Heap>(
+    turning: &Turning<'_, 'p, H>,
     work: Work<'p>,
     frame: &mut Frame<'p>,
 ) -> Result<Effect<'p>, Memory>
-    ensures { IfOk result (λ effect. (frame.new, effect_of effect) ≡ acted setting.now world.now threads.now thread (item_of work.entry) frame.old) }
+    requires { goes_on work ≡ true }
+    ensures { IfOk result (λ effect.
+        IsStep turning.now (item_of work.entry) frame.old frame.new effect) }
 {
-    let depth = depth_at(threads, thread);
     match work {
-        Work::Make(at, object, class, arguments) => {
-            make(
-                alloc, setting, world, depth, at, object, class, arguments, frame,
-            )
-        }
-        Work::Build(at, object, class) => {
-            build(alloc, setting, world, depth, at, object, class, frame)
-        }
-        Work::Unmake(at, object, class) => {
-            unmake(
-                alloc, setting, world, threads, depth, at, object, class, frame,
-            )
-        }
-        Work::Run => run(alloc, setting, depth, frame),
         Work::Finish => Ok(Effect::End(exit_value(frame.values.top()))),
-        Work::Stmt(statement) => stmt(setting, world, threads, thread, statement, frame),
         Work::While(condition, body) => {
             Ok(local(frame.evaluate(condition, Work::Loop(condition, body))?))
         }
-        Work::Expr(value) => expr(setting, world, threads, thread, value, frame),
-        Work::Read(left) => read(setting, world, left, frame),
         Work::OpOne(at, op) => Ok(local(frame.op_one(at, op)?)),
         Work::OpTwo(at, op) => Ok(local(frame.op_two(at, op)?)),
         Work::OpLeft(at, op) => Ok(local(frame.op_left(at, op)?)),
@@ -223,30 +174,48 @@ pub(crate) fn act<'p, H: Heap>(
         Work::Truth => Ok(local(frame.truth()?)),
         Work::Drop => Ok(local(frame.drop_value())),
         Work::Bind(name, value_type) => Ok(local(frame.bind(name, value_type)?)),
-        Work::Put(left) => put(setting, world, left, frame),
         Work::Keep(value_type) => Ok(local(frame.keep(value_type))),
-        Work::Print(at) => Ok(print(world, at, frame)),
-        Work::Show(at, text) => Ok(show(world, at, text, frame)),
         Work::Branch(yes, otherwise) => Ok(local(frame.branch(yes, otherwise)?)),
         Work::Loop(condition, body) => Ok(local(frame.loop_while(condition, body)?)),
         Work::ForTest(condition, step, body) => {
             Ok(local(frame.evaluate(condition, Work::ForLoop(condition, step, body))?))
         }
         Work::ForLoop(condition, step, body) => Ok(local(frame.loop_for(condition, step, body)?)),
-        Work::Call(callee) => call(alloc, setting, world, depth, &callee, frame),
-        Work::New(at, class) => new(alloc, setting, depth, at, class, world.made(), frame),
-        #[tactic(auto)]
-        Work::Delete(at, class) => {
-            act_delete(alloc, setting, world, threads, thread, at, class, frame)
-        }
-        Work::Spawn(at, name, function) => {
-            spawn(alloc, setting, threads.len(), at, name, function, frame)
-        }
-        Work::Up(at, base) => { enter_on(alloc, setting, depth, at, frame.this, Some(base), frame) }
-        Work::Down(at, base) => {
-            enter_on(alloc, setting, depth, at, frame.this, Some(base), frame)
-        }
         Work::Leave(at) => Ok(leave(at, frame)),
-        Work::End(at, ending) => Ok(end(at, ending, threads, frame)),
+        #[tactic(auto)]
+        Work::End(at, ending) => Ok(end(turning, at, ending, frame)),
+        _ => unreachable!(),
+    }
+}
+
+/// What an item does that was taken off a frame.
+pub(crate) fn act<'p, H: Heap>(
+    turning: &Turning<'_, 'p, H>,
+    work: Work<'p>,
+    frame: &mut Frame<'p>,
+) -> Result<Effect<'p>, Memory>
+    ensures { IfOk result (λ effect.
+        IsStep turning.now (item_of work.entry) frame.old frame.new effect) }
+{
+    match work {
+        Work::Make(at, object, class, arguments) => {
+            make(turning, at, object, class, arguments, frame)
+        }
+        Work::Build(at, object, class) => build(turning, at, object, class, frame),
+        Work::Unmake(at, object, class) => unmake(turning, at, object, class, frame),
+        Work::Run => run(turning, frame),
+        Work::Stmt(statement) => stmt(turning, statement, frame),
+        Work::Expr(value) => expr(turning, value, frame),
+        Work::Read(left) => read(turning, left, frame),
+        Work::Put(left) => put(turning, left, frame),
+        Work::Print(at) => Ok(print(turning, at, frame)),
+        Work::Show(at, text) => Ok(show(turning, at, text, frame)),
+        Work::Call(callee) => call(turning, &callee, frame),
+        Work::New(at, class) => new(turning, at, class, frame),
+        Work::Delete(at, class) => delete(turning, at, class, frame),
+        Work::Spawn(at, name, function) => spawn(turning, at, name, function, frame),
+        Work::Up(at, base) => enter_base(turning, at, base, frame),
+        Work::Down(at, base) => enter_base(turning, at, base, frame),
+        _ => go_on(turning, work, frame),
     }
 }

@@ -35,7 +35,12 @@ impl<'p, H: Heap> Model for Engine<'p, H> {
 
     ghost coded = { Prim.hlevel (codes, core_codes) };
 
-    ghost view = { λ e. record { setting = e.setting.now; threads = e.threads.items; world = e.world; state = e.state } };
+    ghost view = { λ e. record {
+      setting = e.setting.now;
+      threads = e.threads.items;
+      world = e.world;
+      state = e.state;
+    } };
 }
 
 /// What a turn is to the caller.

@@ -4,8 +4,8 @@ ghost use Rattle.std.specs.Prelude.{◌≡◌, ◌<◌, ◌≤◌, map, option_m
 ghost use Rattle.std.specs.Option.{option_copied};
 ghost use Rattle.cxx_arith.specs.Kinds as kinds;
 ghost use Rattle.cxx_core.specs.ProgramView.{class_core};
+ghost use Rattle.step_machine.specs.Flips as spec;
 ghost use Rattle.step_machine.specs.Setting.{chain};
-ghost use Rattle.step_engine.specs.Flips as spec;
 
 use crate::engine::Engine;
 use agxx_base::{ClassId, Memory, NumKind, ObjectId};
@@ -29,7 +29,8 @@ fn width(kind: NumKind) -> u32
 }
 
 fn class_at(classes: &[Class], class: ClassId) -> Option<&Class>
-    ensures { option_map class_core (option_copied result) ≡ slice_get (map class_core classes.now) class.0 }
+    ensures { option_map class_core (option_copied result) ≡
+        slice_get (map class_core classes.now) class.0 }
 {
     classes.get(class.0 as usize)
 }
@@ -45,8 +46,8 @@ fn own_width(class: &Class, word: usize) -> u32
     }
 }
 
-/// How many bits a word has of a class, if there is one, and of those above it, so many at most, which declare so many
-/// words.
+/// How many bits a word has of a class, if there is one, and of those above it, so many at most, which declare so
+/// many words.
 fn width_upwards(
     classes: &[Class],
     steps: usize,
@@ -55,7 +56,8 @@ fn width_upwards(
     word: usize,
 ) -> u32
     requires { words ≡ spec.word_count (chain (map class_core classes.now) steps class) }
-    ensures value { result ≡ spec.width_by (slice_get (spec.words_in (chain (map class_core classes.now) steps class)) word) }
+    ensures value { result ≡ spec.width_by
+        (slice_get (spec.words_in (chain (map class_core classes.now) steps class)) word) }
     ensures most { result ≤ 64 }
 {
     let mut next = class;
@@ -117,11 +119,12 @@ impl<'p, H: Heap> Engine<'p, H> {
         }
     }
 
-    /// Inverts a bit where the object is live, has such a word and the bit is one of it, and tells whether it did. After
-    /// `Memory` the run is lost.
-    #[tactic(auto, unfolding(crate::specs::Flips::flipped))]
+    /// Inverts a bit where the object is live, has such a word and the bit is one of it, and tells whether it did.
+    /// After `Memory` the run is lost.
+    #[tactic(auto, unfolding(step_machine::specs::Flips::flipped))]
     pub fn flip(&mut self, object: ObjectId, word: u32, bit: u32) -> Result<bool, Memory>
-        ensures ok { IfOk result (λ changes. (self.new, changes) ≡ spec.flipped object.0 word bit self.old) }
+        ensures ok { IfOk result (λ changes.
+            (self.new, changes) ≡ spec.flipped object.0 word bit self.old) }
         ensures err { OnErr result (self.new.state ≡ State.Lost) }
     {
         let Some(bits) = self.world.word(object, word) else {

@@ -14,6 +14,7 @@ mod objects;
 mod runs;
 mod start;
 mod threads;
+mod turning;
 mod turns;
 
 pub use engine::Engine;

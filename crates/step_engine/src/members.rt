@@ -3,26 +3,28 @@
 ghost use Rattle.std.specs.Prelude.{◌≡◌, ◌+◌, nat_le, length, IfOk, option_map};
 ghost use Rattle.std.specs.Fmt.{signed_decimal};
 ghost use Rattle.cxx_arith.specs.Numbers as numbers;
+ghost use Rattle.cxx_core.specs.CoreExpr as c;
 ghost use Rattle.cxx_core.specs.ExprView.{variable_core, object_core, left_core};
 ghost use Rattle.step_machine.specs.ActMembers as spec;
-ghost use Rattle.step_machine.specs.Effects.{did};
+ghost use Rattle.step_machine.specs.Item as it;
 ghost use Rattle.step_machine.specs.World.{word_at, variable_at};
 ghost use Rattle.step_frame.specs.Works.{number_of};
-ghost use Rattle.step_engine.specs.Effects.{effect_of};
+ghost use Rattle.step_engine.specs.Steps.{HasActed, IsStep};
 
 use crate::effect::Effect;
+use crate::turning::Turning;
 use agxx_base::{Memory, NumKind, OUTPUT_LIMIT, ObjectId, Place};
 use cxx_arith::{Value, number};
 use cxx_core::{Left, Member, Object, Variable};
 use itoa::Buffer;
 use step_frame::{Frame, as_number, bits_of, converted, object_of};
 use step_machine::{Datum, Stop};
-use step_setting::Setting;
 use step_world::{Change, Heap, World};
 
 /// The value of a variable.
 fn variable_now<H: Heap>(world: &World<H>, frame: &Frame, variable: Variable) -> Datum
-    ensures { result ≡ spec.variable_now (variable_at world.now) frame.now (variable_core variable) }
+    ensures { result ≡
+        spec.variable_now (variable_at world.now) frame.now (variable_core variable) }
 {
     match variable {
         Variable::Local(name, value_type) => frame.local(name, value_type),
@@ -32,18 +34,18 @@ fn variable_now<H: Heap>(world: &World<H>, frame: &Frame, variable: Variable) ->
 
 /// The object that is meant, if its pointer isn't null.
 fn object_now<H: Heap>(
-    setting: &Setting,
-    world: &World<H>,
+    turning: &Turning<'_, '_, H>,
     frame: &Frame,
     object: Object,
 ) -> Option<ObjectId>
-    ensures { option_map number_of result ≡ spec.object_now setting.now (variable_at world.now) frame.now (object_core object) }
+    ensures { option_map number_of result ≡ spec.object_now turning.now.setting
+        (variable_at turning.now.world) frame.now (object_core object) }
 {
     match object {
         Object::Own => frame.this,
         Object::This => frame.this,
-        Object::Named(name, _) => Some(ObjectId(setting.global_object(name))),
-        Object::Pointed(variable) => object_of(variable_now(world, frame, variable)),
+        Object::Named(name, _) => Some(turning.global_object(name)),
+        Object::Pointed(variable) => object_of(variable_now(turning.world, frame, variable)),
     }
 }
 
@@ -53,7 +55,8 @@ fn read_word<'p>(
     bits: Option<u64>,
     frame: &mut Frame<'p>,
 ) -> Result<Effect<'p>, Memory>
-    ensures { IfOk result (λ effect. (frame.new, effect_of effect) ≡ did frame.old (spec.read_word at kind bits frame.old)) }
+    ensures { IfOk result (λ effect. HasActed frame.old frame.new effect
+        (spec.read_word at kind bits frame.old)) }
 {
     match bits {
         None => Ok(Effect::Stop(Stop::Dead, at)),
@@ -64,44 +67,59 @@ fn read_word<'p>(
     }
 }
 
+#[tactic(auto, unfolding(crate::specs::Steps::acted))]
 fn read_member<'p, H: Heap>(
-    setting: &Setting,
-    world: &World<H>,
+    turning: &Turning<'_, 'p, H>,
     member: Member,
     frame: &mut Frame<'p>,
 ) -> Result<Effect<'p>, Memory>
-    ensures { IfOk result (λ effect. (frame.new, effect_of effect) ≡ did frame.old (spec.read setting.now (variable_at world.now) (word_at world.now) (left_core (Left.Member member)) frame.old)) }
+    ensures { IfOk result (λ effect. IsStep turning.now
+        (it.expr (c.read (left_core (Left.Member member)))) frame.old frame.new effect) }
 {
-    match object_now(setting, world, frame, member.object) {
+    match object_now(turning, frame, member.object) {
         None => Ok(Effect::Stop(Stop::Null, member.at)),
         Some(object) => {
-            let word = setting.word_number(member.class, member.name);
-            read_word(member.at, member.kind, world.word(object, word), frame)
+            if turning.is_other(member.class, object) {
+                return Ok(Effect::Stay);
+            }
+            let word = turning.setting.word_number(member.class, member.name);
+            read_word(member.at, member.kind, turning.world.word(object, word), frame)
         }
     }
+}
+
+#[tactic(auto, unfolding(crate::specs::Steps::acted))]
+fn read_variable<'p, H: Heap>(
+    turning: &Turning<'_, 'p, H>,
+    variable: Variable,
+    frame: &mut Frame<'p>,
+) -> Result<Effect<'p>, Memory>
+    ensures { IfOk result (λ effect. IsStep turning.now
+        (it.expr (c.read (left_core (Left.Variable variable)))) frame.old frame.new effect) }
+{
+    let value = variable_now(turning.world, frame, variable);
+    frame.values.push(value)?;
+    Ok(Effect::Stay)
 }
 
 /// Reads what may be assigned to.
 pub(crate) fn read<'p, H: Heap>(
-    setting: &Setting,
-    world: &World<H>,
+    turning: &Turning<'_, 'p, H>,
     left: Left,
     frame: &mut Frame<'p>,
 ) -> Result<Effect<'p>, Memory>
-    ensures { IfOk result (λ effect. (frame.new, effect_of effect) ≡ did frame.old (spec.read setting.now (variable_at world.now) (word_at world.now) (left_core left) frame.old)) }
+    ensures { IfOk result (λ effect. IsStep turning.now
+        (it.expr (c.read (left_core left))) frame.old frame.new effect) }
 {
     match left {
-        Left::Variable(variable) => {
-            let value = variable_now(world, frame, variable);
-            frame.values.push(value)?;
-            Ok(Effect::Stay)
-        }
-        Left::Member(member) => read_member(setting, world, member, frame),
+        Left::Variable(variable) => read_variable(turning, variable, frame),
+        Left::Member(member) => read_member(turning, member, frame),
     }
 }
 
 fn put_variable<'p>(variable: Variable, frame: &mut Frame<'p>) -> Result<Effect<'p>, Memory>
-    ensures { IfOk result (λ effect. (frame.new, effect_of effect) ≡ did frame.old (spec.put_variable (variable_core variable) frame.old)) }
+    ensures { IfOk result (λ effect. HasActed frame.old frame.new effect
+        (spec.put_variable (variable_core variable) frame.old)) }
 {
     let value = frame.values.take();
     match variable {
@@ -123,7 +141,8 @@ fn put_word<'p, H: Heap>(
     word: u32,
     frame: &mut Frame<'p>,
 ) -> Effect<'p>
-    ensures { (frame.new, effect_of result) ≡ did frame.old (spec.put_word at kind object.0 word (word_at world.now object.0 word) frame.old) }
+    ensures { HasActed frame.old frame.new result
+        (spec.put_word at kind object.0 word (word_at world.now object.0 word) frame.old) }
 {
     match world.word(object, word) {
         None => Effect::Stop(Stop::Dead, at),
@@ -134,35 +153,40 @@ fn put_word<'p, H: Heap>(
     }
 }
 
+#[tactic(auto, unfolding(crate::specs::Steps::acted))]
 fn put_member<'p, H: Heap>(
-    setting: &Setting,
-    world: &World<H>,
+    turning: &Turning<'_, 'p, H>,
     member: Member,
     frame: &mut Frame<'p>,
 ) -> Effect<'p>
-    ensures { (frame.new, effect_of result) ≡ did frame.old (spec.put setting.now (variable_at world.now) (word_at world.now) (left_core (Left.Member member)) frame.old) }
+    ensures { IsStep turning.now (it.put (left_core (Left.Member member)))
+        frame.old frame.new result }
 {
-    match object_now(setting, world, frame, member.object) {
+    match object_now(turning, frame, member.object) {
         None => Effect::Stop(Stop::Null, member.at),
         Some(object) => {
-            let word = setting.word_number(member.class, member.name);
-            put_word(world, member.at, member.kind, object, word, frame)
+            if turning.is_other(member.class, object) {
+                return Effect::Stay;
+            }
+            let word = turning.setting.word_number(member.class, member.name);
+            put_word(turning.world, member.at, member.kind, object, word, frame)
         }
     }
 }
 
 /// Assigns the value to what may be assigned to.
+#[tactic(auto, unfolding(crate::specs::Steps::acted))]
 pub(crate) fn put<'p, H: Heap>(
-    setting: &Setting,
-    world: &World<H>,
+    turning: &Turning<'_, 'p, H>,
     left: Left,
     frame: &mut Frame<'p>,
 ) -> Result<Effect<'p>, Memory>
-    ensures { IfOk result (λ effect. (frame.new, effect_of effect) ≡ did frame.old (spec.put setting.now (variable_at world.now) (word_at world.now) (left_core left) frame.old)) }
+    ensures { IfOk result (λ effect.
+        IsStep turning.now (it.put (left_core left)) frame.old frame.new effect) }
 {
     match left {
         Left::Variable(variable) => put_variable(variable, frame),
-        Left::Member(member) => Ok(put_member(setting, world, member, frame)),
+        Left::Member(member) => Ok(put_member(turning, member, frame)),
     }
 }
 
@@ -174,15 +198,16 @@ fn has_output(printed: usize, more: usize) -> bool
 }
 
 /// Prints a text.
+#[tactic(auto, unfolding(crate::specs::Steps::acted))]
 pub(crate) fn show<'p, H: Heap>(
-    world: &World<H>,
+    turning: &Turning<'_, 'p, H>,
     at: Place,
     text: &'p [u8],
     frame: &Frame<'p>,
 ) -> Effect<'p>
-    ensures { (frame.now, effect_of result) ≡ did frame.now (spec.shows (length world.now.output) at text.now frame.now) }
+    ensures { IsStep turning.now (it.show at text.now) frame.now frame.now result }
 {
-    if has_output(world.printed(), text.len()) {
+    if has_output(turning.world.printed(), text.len()) {
         Effect::Change(Change::Show(text))
     } else {
         Effect::Stop(Stop::Output, at)
@@ -197,11 +222,16 @@ fn decimal_len(value: Value) -> usize
 }
 
 /// Prints the value, which is a number.
-pub(crate) fn print<'p, H: Heap>(world: &World<H>, at: Place, frame: &mut Frame<'p>) -> Effect<'p>
-    ensures { (frame.new, effect_of result) ≡ did frame.old (spec.prints (length world.now.output) at frame.old) }
+#[tactic(auto, unfolding(crate::specs::Steps::acted))]
+pub(crate) fn print<'p, H: Heap>(
+    turning: &Turning<'_, 'p, H>,
+    at: Place,
+    frame: &mut Frame<'p>,
+) -> Effect<'p>
+    ensures { IsStep turning.now (it.print at) frame.old frame.new result }
 {
     let value = as_number(frame.values.top());
-    if has_output(world.printed(), decimal_len(value)) {
+    if has_output(turning.world.printed(), decimal_len(value)) {
         let _ = frame.values.take();
         Effect::Change(Change::Print(value))
     } else {

@@ -1,67 +1,61 @@
 //! Items that construct an object or destroy one.
 
-ghost use Rattle.std.specs.Prelude.{◌≡◌, None, length, IfOk, option_map, if◌then◌else◌};
+ghost use Rattle.std.specs.Prelude.{◌≡◌, Some, IfOk, option_map};
 ghost use Rattle.cxx_core.specs.ExprView.{exprs_core};
-ghost use Rattle.cxx_core.specs.ProgramView.{function_core};
 ghost use Rattle.step_machine.specs.ActObjects as spec;
-ghost use Rattle.step_machine.specs.Effects.{did};
-ghost use Rattle.step_machine.specs.Frame.{arguments, popped};
-ghost use Rattle.step_machine.specs.World.{class_at};
-ghost use Rattle.step_machine.specs.Frame as frames;
-ghost use Rattle.step_engine.specs.Effects.{effect_of};
+ghost use Rattle.step_machine.specs.Item as it;
+ghost use Rattle.step_frame.specs.Works.{ending_of, number_of};
+ghost use Rattle.step_engine.specs.Steps.{HasActed, IsStep, created, destroyed, popped_if};
 
 use crate::effect::{Effect, local};
 use crate::enter::{Entry, destruct, enter_on, frame_of, has_room, take_arguments};
-use agxx_base::{ClassId, FnId, Memory, OBJECT_LIMIT, ObjectId, Place};
-use cxx_core::{Expr, Function};
-use std::alloc::Global;
-use step_frame::{Ending, Frame, Thread, Work, any_on, object_of};
+use crate::turning::Turning;
+use agxx_base::{ClassId, Memory, OBJECT_LIMIT, ObjectId, Place};
+use cxx_core::Expr;
+use step_frame::{Ending, Frame, Work, object_of};
 use step_machine::{Datum, Stop};
-use step_setting::Setting;
-use step_world::{Change, Heap, World};
+use step_world::{Change, Heap};
 
 /// Constructs a global object, whose arguments are the last values.
+#[tactic(auto, unfolding(crate::specs::Steps::acted))]
 pub(crate) fn build<'p, H: Heap>(
-    alloc: Global,
-    setting: &Setting<'p>,
-    world: &World<H>,
-    depth: usize,
+    turning: &Turning<'_, 'p, H>,
     at: Place,
     object: ObjectId,
     class: ClassId,
     frame: &mut Frame<'p>,
 ) -> Result<Effect<'p>, Memory>
-    ensures { IfOk result (λ effect. (frame.new, effect_of effect) ≡ did frame.old (spec.build setting.now depth (class_at world.now) at object.0 class frame.old)) }
+    ensures { IfOk result (λ effect.
+        IsStep turning.now (it.build at object.0 class) frame.old frame.new effect) }
 {
-    match world.class(object) {
+    match turning.class(object) {
         None => Ok(Effect::Stop(Stop::Dead, at)),
         Some(_) => {
-            let constructor = setting.constructor_of(class);
-            enter_on(alloc, setting, depth, at, Some(object), constructor, frame)
+            let constructor = turning.setting.constructor_of(class);
+            enter_on(turning, at, Some(object), constructor, frame)
         }
     }
 }
 
 /// Constructs a global object, whose arguments are evaluated first where there are some.
+#[tactic(auto, unfolding(crate::specs::Steps::acted))]
 pub(crate) fn make<'p, H: Heap>(
-    alloc: Global,
-    setting: &Setting<'p>,
-    world: &World<H>,
-    depth: usize,
+    turning: &Turning<'_, 'p, H>,
     at: Place,
     object: ObjectId,
     class: ClassId,
     arguments: &'p [Expr],
     frame: &mut Frame<'p>,
 ) -> Result<Effect<'p>, Memory>
-    ensures { IfOk result (λ effect. (frame.new, effect_of effect) ≡ did frame.old (spec.make setting.now depth (class_at world.now) at object.0 class (exprs_core arguments.now) frame.old)) }
+    ensures { IfOk result (λ effect. IsStep turning.now
+        (it.make at object.0 class (exprs_core arguments.now)) frame.old frame.new effect) }
 {
-    match world.class(object) {
+    match turning.class(object) {
         None => Ok(Effect::Stop(Stop::Dead, at)),
         Some(_) => match arguments {
             [] => {
-                let constructor = setting.constructor_of(class);
-                enter_on(alloc, setting, depth, at, Some(object), constructor, frame)
+                let constructor = turning.setting.constructor_of(class);
+                enter_on(turning, at, Some(object), constructor, frame)
             }
             [_, ..] => {
                 let build = Work::Build(at, object, class);
@@ -71,156 +65,138 @@ pub(crate) fn make<'p, H: Heap>(
     }
 }
 
-fn new_plain<'p>(
-    setting: &Setting<'p>,
+/// Makes an object of a number, whose class has no constructor.
+fn new_plain<'p, H: Heap>(
+    turning: &Turning<'_, 'p, H>,
     class: ClassId,
     made: u32,
     frame: &mut Frame<'p>,
 ) -> Result<Effect<'p>, Memory>
-    ensures { IfOk result (λ effect. (frame.new, effect_of effect) ≡ did frame.old (spec.new_plain setting.now 0 made class frame.old)) }
+    ensures { IfOk result (λ effect. HasActed frame.old frame.new effect
+        (spec.new_plain turning.now.setting 0 made class frame.old)) }
 {
     frame.values.push(Datum::Pointer(ObjectId(made)))?;
-    Ok(Effect::Change(Change::Create(class, setting.word_count(class))))
+    Ok(Effect::Change(Change::Create(class, turning.setting.word_count(class))))
 }
 
-fn created<'p>(
-    alloc: Global,
-    setting: &Setting<'p>,
-    depth: usize,
-    at: Place,
+/// Makes an object of a number and enters its constructor, whose arguments are the last values.
+fn created<'p, H: Heap>(
+    turning: &Turning<'_, 'p, H>,
     class: ClassId,
     made: u32,
-    constructor: (FnId, &'p Function),
+    entry: Entry<'p>,
     frame: &mut Frame<'p>,
 ) -> Result<Effect<'p>, Memory>
-    ensures { IfOk result (λ effect. (frame.new, effect_of effect) ≡ did frame.old (spec.created setting.now depth made constructor.entry.0.0 at class (function_core constructor.entry.1.now) (arguments (function_core constructor.entry.1.now) frame.old) frame.old)) }
+    requires this { option_map number_of entry.this ≡ Some made }
+    requires ending { ending_of entry.ending ≡ it.returns }
+    ensures { IfOk result (λ effect. HasActed frame.old frame.new effect
+        (created turning.now made class entry.entry frame.old)) }
 {
-    let (number, function) = constructor;
-    if has_room(setting, depth, number, frame) {
-        let locals = take_arguments(alloc, function, &mut frame.values)?;
+    if has_room(turning, entry.number, frame) {
+        let locals = take_arguments(turning.alloc, entry.function, &mut frame.values)?;
         frame.values.push(Datum::Pointer(ObjectId(made)))?;
-        let this = Some(ObjectId(made));
-        let ending = Ending::Returns;
-        let entry = Entry {
-            at,
-            number,
-            function,
-            this,
-            ending,
-        };
-        let next = frame_of(alloc, setting, entry, locals)?;
-        Ok(Effect::CreateEntering(class, setting.word_count(class), next))
+        let next = frame_of(turning, entry, locals)?;
+        Ok(Effect::CreateEntering(class, turning.setting.word_count(class), next))
     } else {
-        Ok(Effect::Stop(Stop::Depth, at))
+        Ok(Effect::Stop(Stop::Depth, entry.at))
     }
 }
 
 /// Makes an object, whose constructor's arguments are the last values.
-pub(crate) fn new<'p>(
-    alloc: Global,
-    setting: &Setting<'p>,
-    depth: usize,
+#[tactic(auto, unfolding(crate::specs::Steps::acted))]
+pub(crate) fn new<'p, H: Heap>(
+    turning: &Turning<'_, 'p, H>,
     at: Place,
     class: ClassId,
-    made: usize,
     frame: &mut Frame<'p>,
 ) -> Result<Effect<'p>, Memory>
-    ensures { IfOk result (λ effect. (frame.new, effect_of effect) ≡ did frame.old (spec.new setting.now depth made at class frame.old)) }
+    ensures { IfOk result (λ effect.
+        IsStep turning.now (it.new at class) frame.old frame.new effect) }
 {
+    let made = turning.world.made();
     if made >= OBJECT_LIMIT {
         return Ok(Effect::Stop(Stop::Objects, at));
     }
     let made = made as u32;
-    match setting.constructor_of(class) {
-        None => new_plain(setting, class, made, frame),
-        Some(number) => match setting.function(number) {
-            None => new_plain(setting, class, made, frame),
+    match turning.setting.constructor_of(class) {
+        None => new_plain(turning, class, made, frame),
+        Some(number) => match turning.function(number) {
+            None => new_plain(turning, class, made, frame),
             Some(function) => {
-                created(
-                    alloc,
-                    setting,
-                    depth,
+                let this = Some(ObjectId(made));
+                let ending = Ending::Returns;
+                let entry = Entry {
                     at,
-                    class,
-                    made,
-                    (number, function),
-                    frame,
-                )
+                    number,
+                    function,
+                    this,
+                    ending,
+                };
+                created(turning, class, made, entry, frame)
             }
         },
     }
 }
 
-/// Enters the destructor of an object that no frame has as its `this`.
-fn destruct_unused<'p>(
-    alloc: Global,
-    setting: &Setting<'p>,
-    threads: &[Thread<'p>],
-    depth: usize,
+/// Enters the destructor of an object that no frame has as its `this`. The top value is taken off first, if it is the
+/// pointer to the object.
+fn destroy<'p, H: Heap>(
+    turning: &Turning<'_, 'p, H>,
     at: Place,
     object: ObjectId,
     class: ClassId,
     pops: bool,
     frame: &mut Frame<'p>,
 ) -> Result<Effect<'p>, Memory>
-    ensures { IfOk result (λ effect. (frame.new, effect_of effect) ≡ did frame.old (spec.destruct_unused setting.now depth (λ o. None) (λ o. frames.any_on o threads.now) at object.0 class frame.old (if pops then popped frame.old else frame.old))) }
+    ensures { IfOk result (λ effect. HasActed frame.old frame.new effect
+        (destroyed turning.now at object class frame.old (popped_if pops frame.old))) }
 {
-    if frame.is_on(object) || any_on(threads, object) {
+    if frame.is_on(object) || turning.is_busy(object) {
         return Ok(Effect::Stop(Stop::Busy, at));
     }
-    let destructor = setting.destructor_of(class);
-    destruct(alloc, setting, depth, at, object, destructor, pops, frame)
+    let destructor = turning.setting.destructor_of(class);
+    destruct(turning, at, object, destructor, pops, frame)
 }
 
 /// Destroys a global object.
+#[tactic(auto, unfolding(crate::specs::Steps::acted))]
 pub(crate) fn unmake<'p, H: Heap>(
-    alloc: Global,
-    setting: &Setting<'p>,
-    world: &World<H>,
-    threads: &[Thread<'p>],
-    depth: usize,
+    turning: &Turning<'_, 'p, H>,
     at: Place,
     object: ObjectId,
     class: ClassId,
     frame: &mut Frame<'p>,
 ) -> Result<Effect<'p>, Memory>
-    ensures { IfOk result (λ effect. (frame.new, effect_of effect) ≡ did frame.old (spec.unmake setting.now depth (class_at world.now) (λ o. frames.any_on o threads.now) at object.0 class frame.old)) }
+    ensures { IfOk result (λ effect.
+        IsStep turning.now (it.unmake at object.0 class) frame.old frame.new effect) }
 {
-    match world.class(object) {
+    match turning.class(object) {
         None => Ok(Effect::Stop(Stop::Dead, at)),
-        Some(_) => {
-            destruct_unused(
-                alloc, setting, threads, depth, at, object, class, false, frame,
-            )
-        }
+        Some(_) => destroy(turning, at, object, class, false, frame),
     }
 }
 
 /// `delete` of the pointer on top.
+#[tactic(auto, unfolding(crate::specs::Steps::acted))]
 pub(crate) fn delete<'p, H: Heap>(
-    alloc: Global,
-    setting: &Setting<'p>,
-    world: &World<H>,
-    threads: &[Thread<'p>],
-    depth: usize,
+    turning: &Turning<'_, 'p, H>,
     at: Place,
     class: ClassId,
     frame: &mut Frame<'p>,
 ) -> Result<Effect<'p>, Memory>
-    ensures { IfOk result (λ effect. (frame.new, effect_of effect) ≡ did frame.old (spec.delete setting.now depth (class_at world.now) (λ o. frames.any_on o threads.now) at class frame.old)) }
+    ensures { IfOk result (λ effect.
+        IsStep turning.now (it.delete at class) frame.old frame.new effect) }
 {
     match object_of(frame.values.top()) {
         None => {
             let _ = frame.values.take();
             Ok(Effect::Stay)
         }
-        Some(object) => match world.class(object) {
+        Some(object) => match turning.class(object) {
             None => Ok(Effect::Stop(Stop::Dead, at)),
             Some(found) => {
                 if found.0 == class.0 {
-                    destruct_unused(
-                        alloc, setting, threads, depth, at, object, class, true, frame,
-                    )
+                    destroy(turning, at, object, class, true, frame)
                 } else {
                     Ok(Effect::Stop(Stop::WrongDelete, at))
                 }

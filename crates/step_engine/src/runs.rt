@@ -68,7 +68,8 @@ impl<'p, H: Heap> Engine<'p, H> {
     /// Takes turns while the run goes on, so many at most, and counts them. After `Memory` the run is lost.
     #[tactic(auto, using(crate::proofs::Overs::over_at))]
     pub fn run<T: Turns>(&mut self, turns: &T, limit: u64) -> Result<Counts, Memory>
-        ensures ran { IfOk result (λ counts. (self.new, counts_of counts) ≡ run_of (T.thread turns.now) limit self.old) }
+        ensures ran { IfOk result (λ counts.
+            (self.new, counts_of counts) ≡ run_of (T.thread turns.now) limit self.old) }
         ensures few { IfOk result (λ counts. turns_in counts ≤ limit) }
     {
         let mut counts = Counts::new();

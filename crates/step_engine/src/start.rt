@@ -1,12 +1,13 @@
 //! What a run finds at its start.
 
-ghost use Rattle.std.specs.Prelude.{◌≡◌, [], suc, map, IfOk, OnOk};
+ghost use Rattle.std.specs.Prelude.{◌≡◌, ◌+◌, ◌≤◌, [], length, map, IfOk, OnOk};
 ghost use Rattle.cxx_core.specs.ProgramView.{global_core};
-ghost use Rattle.step_machine.specs.Start.{start_frame, start_items, start_world, makes_on, unmakes_on};
+ghost use Rattle.step_machine.specs.Start.{start_frame, start_items, start_world};
+ghost use Rattle.step_machine.specs.Start.{makes_on, unmakes_on};
 ghost use Rattle.step_world.specs.Worlds.{empty_world};
-ghost use Rattle.step_engine.specs.Starts.{with_variable, with_global, with_globals};
+ghost use Rattle.step_engine.specs.Starts.{with_variable, with_global, with_globals, object_count};
 
-use agxx_base::{Memory, NameId, ObjectId};
+use agxx_base::{Memory, NameId, OBJECT_LIMIT, ObjectId};
 use cxx_core::Global as GlobalItem;
 use std::alloc::Global;
 use step_frame::{Agenda, Frame, Stack, Work};
@@ -14,29 +15,21 @@ use step_machine::Datum;
 use step_setting::Setting;
 use step_world::{Entries, Heap, World};
 
-/// The number of the next object.
-fn after(object: ObjectId) -> Result<ObjectId, Memory>
-    ensures { IfOk result (λ next. next.0 ≡ suc object.0) }
-{
-    match object.0.checked_add(1) {
-        None => Err(Memory),
-        Some(next) => Ok(ObjectId(next)),
-    }
-}
-
 /// Puts the construction of the global objects, of which the first has this number, before what is left to do.
 fn push_makes<'p>(
     globals: &'p [GlobalItem],
     object: ObjectId,
     agenda: &mut Agenda<'p>,
 ) -> Result<(), Memory>
-    ensures { OnOk result (agenda.new ≡ makes_on object.0 (map global_core globals.now) agenda.old) }
+    requires { object.0 + object_count (map global_core globals.now) ≤ OBJECT_LIMIT }
+    ensures { OnOk result (agenda.new ≡
+        makes_on object.0 (map global_core globals.now) agenda.old) }
 {
     match globals {
         [] => Ok(()),
         [global, rest @ ..] => match global {
             GlobalItem::Object(at, _, class, arguments) => {
-                push_makes(rest, after(object)?, agenda)?;
+                push_makes(rest, ObjectId(object.0 + 1), agenda)?;
                 agenda.push(Work::Make(*at, object, *class, arguments.as_slice()))
             }
             _ => push_makes(rest, object, agenda),
@@ -44,21 +37,23 @@ fn push_makes<'p>(
     }
 }
 
-/// Puts the destruction of the global objects, of which the first has this number, in reverse order before what is left to
-/// do.
+/// Puts the destruction of the global objects, of which the first has this number, in reverse order before what is
+/// left to do.
 fn push_unmakes<'p>(
     globals: &'p [GlobalItem],
     object: ObjectId,
     agenda: &mut Agenda<'p>,
 ) -> Result<(), Memory>
-    ensures { OnOk result (agenda.new ≡ unmakes_on object.0 (map global_core globals.now) agenda.old) }
+    requires { object.0 + object_count (map global_core globals.now) ≤ OBJECT_LIMIT }
+    ensures { OnOk result (agenda.new ≡
+        unmakes_on object.0 (map global_core globals.now) agenda.old) }
 {
     match globals {
         [] => Ok(()),
         [global, rest @ ..] => match global {
             GlobalItem::Object(at, _, class, _) => {
                 agenda.push(Work::Unmake(*at, object, *class))?;
-                push_unmakes(rest, after(object)?, agenda)
+                push_unmakes(rest, ObjectId(object.0 + 1), agenda)
             }
             _ => push_unmakes(rest, object, agenda),
         },
@@ -66,6 +61,7 @@ fn push_unmakes<'p>(
 }
 
 fn items<'p>(alloc: Global, globals: &'p [GlobalItem]) -> Result<Agenda<'p>, Memory>
+    requires { object_count (map global_core globals.now) ≤ OBJECT_LIMIT }
     ensures { IfOk result (λ items. items ≡ start_items (map global_core globals.now)) }
 {
     let mut agenda = Agenda::new(alloc);
@@ -77,7 +73,11 @@ fn items<'p>(alloc: Global, globals: &'p [GlobalItem]) -> Result<Agenda<'p>, Mem
 }
 
 /// The frame in which a run starts.
-pub(crate) fn start_frame<'p>(alloc: Global, globals: &'p [GlobalItem]) -> Result<Frame<'p>, Memory>
+pub(crate) fn start_frame<'p>(
+    alloc: Global,
+    globals: &'p [GlobalItem],
+) -> Result<Frame<'p>, Memory>
+    requires { object_count (map global_core globals.now) ≤ OBJECT_LIMIT }
     ensures { IfOk result (λ frame. frame ≡ start_frame (map global_core globals.now)) }
 {
     Ok(Frame {
@@ -93,7 +93,8 @@ pub(crate) fn start_frame<'p>(alloc: Global, globals: &'p [GlobalItem]) -> Resul
 }
 
 fn declare<H: Heap>(world: &mut World<H>, name: NameId, value: Datum) -> Result<(), Memory>
-    ensures { OnOk result (world.new ≡ with_variable name.0 value world.old) }
+    ensures ok { OnOk result (world.new ≡ with_variable name.0 value world.old) }
+    ensures objects { OnOk result (world.new.objects ≡ world.old.objects) }
 {
     if world.has_variable(name) {
         Ok(())
@@ -102,8 +103,12 @@ fn declare<H: Heap>(world: &mut World<H>, name: NameId, value: Datum) -> Result<
     }
 }
 
+#[tactic(auto, using(crate::proofs::Starts::few_more))]
 fn add<H: Heap>(setting: &Setting, global: &GlobalItem, world: &mut World<H>) -> Result<(), Memory>
-    ensures { OnOk result (world.new ≡ with_global setting.now (global_core global.now) world.old) }
+    requires { length world.old.objects ≤ OBJECT_LIMIT }
+    ensures ok { OnOk result (world.new ≡
+        with_global setting.now (global_core global.now) world.old) }
+    ensures few { OnOk result (length world.new.objects ≤ OBJECT_LIMIT) }
 {
     match global {
         GlobalItem::Number(name, value) => declare(world, *name, Datum::Number(*value)),
@@ -119,7 +124,10 @@ fn add_all<H: Heap>(
     globals: &[GlobalItem],
     world: &mut World<H>,
 ) -> Result<(), Memory>
-    ensures { OnOk result (world.new ≡ with_globals setting.now (map global_core globals.now) world.old) }
+    requires { length world.old.objects ≤ OBJECT_LIMIT }
+    ensures ok { OnOk result (world.new ≡
+        with_globals setting.now (map global_core globals.now) world.old) }
+    ensures few { OnOk result (length world.new.objects ≤ OBJECT_LIMIT) }
 {
     for global in globals {
         add(setting, global, world)?;
@@ -128,14 +136,15 @@ fn add_all<H: Heap>(
 }
 
 /// What threads share at the start.
-#[tactic(auto, using(crate::proofs::Starts::start_is))]
+#[tactic(auto, using(crate::proofs::Starts::start_is, crate::proofs::Starts::few_at_start))]
 pub(crate) fn start_world<H: Heap>(
     alloc: Global,
     setting: &Setting,
     heap: H,
 ) -> Result<World<H>, Memory>
     requires { H.objects heap ≡ [] }
-    ensures { IfOk result (λ world. world ≡ start_world setting.now) }
+    ensures ok { IfOk result (λ world. world ≡ start_world setting.now) }
+    ensures few { OnOk result (object_count setting.now.program.globals ≤ OBJECT_LIMIT) }
 {
     let mut world = World::new(alloc, heap);
     add_all(setting, setting.program().globals.as_slice(), &mut world)?;

@@ -1,16 +1,16 @@
 //! The turn of a thread.
 
-ghost use Rattle.std.specs.Prelude.{◌≡◌, ◌∷◌, ◌<◌, length, false, Some, None, slice_get, IfOk, OnOk, MatchOption};
-ghost use Rattle.step_machine.specs.Machine.{taken_off, put_at};
+ghost use Rattle.std.specs.Prelude.{◌≡◌, ◌∷◌, ◌<◌, length, slice_get, IfOk, OnOk};
+ghost use Rattle.step_machine.specs.Machine.{put_at};
 ghost use Rattle.step_machine.specs.Turn.{handed, settled, put_back};
 ghost use Rattle.step_frame.specs.Works.{item_of};
 ghost use Rattle.step_engine.specs.Effects.{effect_of, turn_of};
-ghost use Rattle.step_frame.specs.Threads.{has_items};
-ghost use Rattle.step_engine.specs.Turns.{turn_taken};
+ghost use Rattle.step_engine.specs.Turns.{Took, TookOff, turn_taken};
 
 use crate::act::act;
 use crate::effect::{Effect, Turn};
 use crate::inserted::is_inserted;
+use crate::turning::Turning;
 use agxx_base::Memory;
 use std::alloc::Global;
 use step_frame::{Frame, Thread, Work};
@@ -44,7 +44,8 @@ fn settle<'p>(
     effect: Effect<'p>,
     thread: &mut Thread<'p>,
 ) -> Result<Turn<'p>, Memory>
-    ensures { IfOk result (λ turn. (thread.new, turn_of turn) ≡ settled (item_of work.entry) thread.old frame.entry (effect_of effect.entry)) }
+    ensures { IfOk result (λ turn. (thread.new, turn_of turn) ≡
+        settled (item_of work.entry) thread.old frame.entry (effect_of effect.entry)) }
 {
     match effect {
         Effect::Stay => {
@@ -96,7 +97,7 @@ fn settle<'p>(
 /// Takes the running frame of a thread and its first item, if it has one.
 #[tactic(auto, using(crate::proofs::Takes::taken_none, crate::proofs::Takes::taken_some))]
 fn take<'p>(thread: &mut Thread<'p>) -> Result<Option<(Frame<'p>, Work<'p>)>, Memory>
-    ensures { IfOk result (λ taken. MatchOption taken ((thread.new ≡ thread.old) × (has_items thread.old ≡ false)) (λ r. thread.old ≡ put_back (item_of r.1) r.0 ∷ thread.new)) }
+    ensures { IfOk result (λ taken. Took thread.old thread.new taken) }
 {
     match thread.take_work()? {
         None => Ok(None),
@@ -114,7 +115,7 @@ fn take_off<'p>(
 ) -> Result<Option<(Frame<'p>, Work<'p>)>, Memory>
     requires { thread < length threads.old.items }
     ensures count { OnOk result (length threads.new.items ≡ length threads.old.items) }
-    ensures off { IfOk result (λ taken. MatchOption taken ((threads.new.items ≡ threads.old.items) × (taken_off thread threads.old.items ≡ None)) (λ r. taken_off thread threads.old.items ≡ Some (r.0, item_of r.1, threads.new.items))) }
+    ensures off { IfOk result (λ taken. TookOff thread threads.old.items threads.new.items taken) }
 {
     match take(&mut threads[thread as usize])? {
         None => Ok(None),
@@ -132,7 +133,9 @@ fn put<'p>(
     effect: Effect<'p>,
 ) -> Result<(Turn<'p>, bool), Memory>
     requires { thread < length threads.old.items }
-    ensures { IfOk result (λ r. (threads.new.items, turn_of r.0, r.1) ≡ put_at thread threads.old.items is_inserted (slice_get threads.old.items thread) (item_of work.entry) (frame.entry, effect_of effect.entry)) }
+    ensures { IfOk result (λ r. (threads.new.items, turn_of r.0, r.1) ≡
+        put_at thread threads.old.items is_inserted (slice_get threads.old.items thread)
+        (item_of work.entry) (frame.entry, effect_of effect.entry)) }
 {
     let turn = settle(work, frame, effect, &mut threads[thread as usize])?;
     Ok((turn, is_inserted))
@@ -148,21 +151,21 @@ pub(crate) fn turn<'p, H: Heap>(
     threads: &mut Vec<Thread<'p>>,
 ) -> Result<(Turn<'p>, bool), Memory>
     requires { thread < length threads.old.items }
-    ensures { IfOk result (λ turn. (threads.new.items, turn_of turn.0, turn.1) ≡ turn_taken setting.now world.now thread threads.old.items) }
+    ensures { IfOk result (λ turn. (threads.new.items, turn_of turn.0, turn.1) ≡
+        turn_taken setting.now world.now thread threads.old.items) }
 {
     match take_off(thread, threads)? {
         None => Ok((Turn::Idle, false)),
         Some((mut frame, work)) => {
             let inserted = is_inserted(setting, work, &frame);
-            let effect = act(
+            let turning = Turning {
                 alloc,
                 setting,
                 world,
-                threads.as_slice(),
+                threads: threads.as_slice(),
                 thread,
-                work,
-                &mut frame,
-            )?;
+            };
+            let effect = act(&turning, work, &mut frame)?;
             put(thread, threads, inserted, work, frame, effect)
         }
     }

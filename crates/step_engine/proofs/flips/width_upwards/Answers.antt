@@ -1,7 +1,7 @@
 use Rattle.std.proofs.Common.{◌≡◌, ◌-◌, length, map, slice_get, ap, sym, ◌∙◌, arith}
 use Rattle.std.proofs.lemmas.List.{length-map}
 use Rattle.cxx_core.specs.ProgramView.{class_core, word_core}
-use Rattle.step_engine.specs.Flips.{width_by}
+use Rattle.step_machine.specs.Flips.{width_by}
 use Rattle.step_engine.proofs.Widths.{words_from}
 use Rattle.step_engine.proofs.flips.width_upwards.Goals as goal
 

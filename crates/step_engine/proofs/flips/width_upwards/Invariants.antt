@@ -1,7 +1,7 @@
 use Rattle.std.proofs.Common.{◌≡◌, map, slice_get}
 use Rattle.cxx_core.specs.ProgramView.{class_core}
 use Rattle.step_machine.specs.Setting.{chain}
-use Rattle.step_engine.specs.Flips.{words_in, word_count}
+use Rattle.step_machine.specs.Flips.{words_in, word_count}
 use Rattle.step_engine.proofs.flips.width_upwards.Given as goal
 
 abbrev pub invariant-loop-left : goal.invariant-loop-left
