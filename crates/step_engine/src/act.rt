@@ -136,7 +136,10 @@ fn stmt<'p, H: Heap>(
             Ok(local(frame.evaluate_all(arguments.as_slice(), Work::Spawn(*at, *name, *function))?))
         }
         Stmt::Abort => {
-            Ok(Effect::Halt(frame.this, turning.setting.class_of_function(frame.function)))
+            Ok(Effect::Halt(
+                frame.this,
+                turning.setting.class_of_function(frame.function),
+            ))
         },
         Stmt::Wrong(_) => Ok(Effect::Stay),
     }

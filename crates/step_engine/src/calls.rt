@@ -150,7 +150,11 @@ fn end_returning<'p>(at: Place, frame: &Frame<'p>) -> Effect<'p>
     }
 }
 
-fn end_destroying<'p, H: Heap>(turning: &Turning<'_, 'p, H>, at: Place, frame: &Frame<'p>) -> Effect<'p>
+fn end_destroying<'p, H: Heap>(
+    turning: &Turning<'_, 'p, H>,
+    at: Place,
+    frame: &Frame<'p>,
+) -> Effect<'p>
     ensures { HasActed frame.now frame.now result
         (spec.end_destroying (λ o. any_on o turning.now.threads) at frame.now.this frame.now) }
 {

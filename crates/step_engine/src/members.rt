@@ -83,7 +83,12 @@ fn read_member<'p, H: Heap>(
                 return Ok(Effect::Stay);
             }
             let word = turning.setting.word_number(member.class, member.name);
-            read_word(member.at, member.kind, turning.world.word(object, word), frame)
+            read_word(
+                member.at,
+                member.kind,
+                turning.world.word(object, word),
+                frame,
+            )
         }
     }
 }

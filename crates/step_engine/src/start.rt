@@ -73,10 +73,7 @@ fn items<'p>(alloc: Global, globals: &'p [GlobalItem]) -> Result<Agenda<'p>, Mem
 }
 
 /// The frame in which a run starts.
-pub(crate) fn start_frame<'p>(
-    alloc: Global,
-    globals: &'p [GlobalItem],
-) -> Result<Frame<'p>, Memory>
+pub(crate) fn start_frame<'p>(alloc: Global, globals: &'p [GlobalItem]) -> Result<Frame<'p>, Memory>
     requires { object_count (map global_core globals.now) ≤ OBJECT_LIMIT }
     ensures { IfOk result (λ frame. frame ≡ start_frame (map global_core globals.now)) }
 {

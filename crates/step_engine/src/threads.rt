@@ -25,7 +25,11 @@ use step_world::{Change, Heap, Lock};
 const THREAD_LIMIT: usize = 64;
 
 /// The mutex that is meant in a frame, or why there is none.
-fn mutex_now<H: Heap>(turning: &Turning<'_, '_, H>, mutex: Mutex, frame: &Frame) -> Result<Lock, Stop>
+fn mutex_now<H: Heap>(
+    turning: &Turning<'_, '_, H>,
+    mutex: Mutex,
+    frame: &Frame,
+) -> Result<Lock, Stop>
     ensures { lock_result result ≡ spec.mutex_now turning.now.setting (class_at turning.now.world)
         (mutex_core mutex) frame.now }
 {
