@@ -1,5 +1,5 @@
 -- What an item does names no other members, and what it stores fits where the members are what they are said to be.
-use Rattle.std.proofs.Common.{◌≡◌, ℕ, ◌+◌, Bool, true, false, if◌then◌else◌, nat_eq, nat_le, List, [], ◌∷◌, length, Option, Some, None, Result, Ok, Err, refl}
+use Rattle.std.proofs.Common.{◌≡◌, ℕ, ◌+◌, Bool, true, false, if◌then◌else◌, nat_eq, nat_le, List, ◌∷◌, length, Option, Some, None, Result, Ok, Err, refl}
 use Rattle.agxx_base.specs.declared.ids.ClassId.{ClassId}
 use Rattle.agxx_base.specs.declared.kind.NumKind.{NumKind}
 use Rattle.agxx_base.specs.declared.place.Place.{Place}
@@ -14,7 +14,7 @@ use Rattle.step_machine.specs.declared.datum.Datum.{Datum}
 use Rattle.step_machine.specs.declared.outcome.Stop.{Stop}
 use Rattle.step_machine.specs.declared.outcome.Stop.TheVariants as stop
 use Rattle.step_machine.specs.Data.{as_number, is_true, bits_of}
-use Rattle.step_machine.specs.Entries.{entry, without_entry}
+use Rattle.step_machine.specs.Entries.{entry}
 use Rattle.step_machine.specs.Setting.{Setting, word_number}
 use Rattle.step_machine.specs.Item as it
 use Rattle.step_machine.specs.Item.{Item, stmts_on, exprs_on, printed_on}

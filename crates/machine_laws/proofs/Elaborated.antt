@@ -1,12 +1,10 @@
 -- What holds of each member that names can mean holds of each that the core form of a tree names.
-use Rattle.std.proofs.Common.{◌≡◌, ℕ, suc, Bool, true, false, if◌then◌else◌, List, [], ◌∷◌, map, Option, Some, None, option_map, is_some, slice_get, codes, refl, sym, ap, subst, ◌∙◌}
+use Rattle.std.proofs.Common.{◌≡◌, ℕ, Bool, true, false, if◌then◌else◌, List, [], ◌∷◌, map, Option, Some, None, option_map, is_some, codes, refl, ap, subst}
 use Rattle.std.proofs.lemmas.Option.{none-some, same_Some}
 use Rattle.agxx_base.specs.declared.ids.ClassId.{ClassId}
-use Rattle.agxx_base.specs.declared.ids.NameId.{NameId}
 use Rattle.agxx_base.specs.declared.kind.NumKind.{NumKind}
 use Rattle.agxx_base.specs.declared.kind.NumKind.TheVariants as kind
 use Rattle.agxx_base.specs.declared.place.Place.{Place}
-use Rattle.cxx_tree.specs.declared.node.Placed.{Placed}
 use Rattle.cxx_tree.specs.declared.operator.BinOp.{BinOp}
 use Rattle.cxx_tree.specs.declared.operator.BinOp.TheVariants as op
 use Rattle.cxx_tree.specs.declared.operator.UnOp.{UnOp}
@@ -34,7 +32,7 @@ use Rattle.cxx_names.specs.declared.types.Variable.{Variable}
 use Rattle.cxx_names.specs.declared.types.Variable.TheVariants as variable_of
 use Rattle.cxx_names.specs.Tables.{named}
 use Rattle.cxx_names.specs.Declarations.{class_named, is_text}
-use Rattle.cxx_names.specs.LookUp.{or_next, member_named, member_as, member_variable, local_variable, global_variable, global_thing, free_signature, thing_of, variable}
+use Rattle.cxx_names.specs.LookUp.{or_next, member_named, member_as, member_variable, local_variable, global_variable, global_thing, free_signature, thing_of}
 use Rattle.cxx_core.specs.CoreExpr as c
 use Rattle.cxx_core.specs.CoreExpr.{CoreObject, CoreLeft, CoreCallee, CoreExpr, CoreExprs, unary_type, binary_type, type_of, left_type}
 use Rattle.cxx_core.specs.CoreStmt as cs
@@ -210,7 +208,7 @@ module _ (Holds : ClassId → ℕ → NumKind → Type 0) where
       where
         by : (b : Bool)
             → IsMember (if b then global_variable w.declared r.name.item.0
-              else or_next (local_variable scope r.name.item.0) (or_next (member_variable w.declared w.class r.name.item.0) (global_variable w.declared r.name.item.0))) class access j
+            else or_next (local_variable scope r.name.item.0) (or_next (member_variable w.declared w.class r.name.item.0) (global_variable w.declared r.name.item.0))) class access j
             → Holds class r.name.item.0 j
         by true z = absurd (no-global (named w.declared.globals r.name.item.0) class access j z)
         by false z = of-scope (named scope r.name.item.0) w.class r.name.item.0 class access j z

@@ -1,5 +1,5 @@
 -- Every program's core form names members with the kinds that their classes declare.
-use Rattle.std.proofs.Common.{◌≡◌, ℕ, zero, suc, Bool, true, false, if◌then◌else◌, List, [], ◌∷◌, map, Option, Some, None, slice_get, codes, refl, sym, ap, subst}
+use Rattle.std.proofs.Common.{◌≡◌, ℕ, zero, suc, Bool, true, false, if◌then◌else◌, List, [], ◌∷◌, Option, Some, None, slice_get, subst}
 use Rattle.std.proofs.lemmas.Option.{none-some, same_Some}
 use Rattle.agxx_base.specs.declared.ids.ClassId.{ClassId}
 use Rattle.agxx_base.specs.declared.ids.NameId.{NameId}
@@ -8,11 +8,9 @@ use Rattle.agxx_base.specs.declared.place.Place.{Place}
 use Rattle.cxx_tree.specs.declared.node.Placed.{Placed}
 use Rattle.cxx_tree.specs.declared.program.Const.{Const}
 use Rattle.cxx_tree.specs.ProgramTree as p
-use Rattle.cxx_names.specs.declared.declarations.Declared.{Declared}
 use Rattle.cxx_names.specs.declared.types.ValueType.{ValueType}
 use Rattle.cxx_names.specs.declared.types.ValueType.TheVariants as type
 use Rattle.cxx_names.specs.Declarations.{declared, class_named}
-use Rattle.cxx_core.specs.CoreExpr as c
 use Rattle.cxx_core.specs.CoreExpr.{CoreExprs}
 use Rattle.cxx_core.specs.CoreStmt as cs
 use Rattle.cxx_core.specs.CoreStmt.{CoreStmts}
@@ -22,7 +20,7 @@ use Rattle.cxx_core.specs.ElaboratedExpr.{core_exprs}
 use Rattle.cxx_core.specs.ElaboratedStmt.{core_block}
 use Rattle.cxx_core.specs.ElaboratedProgram as k
 use Rattle.cxx_core.specs.ElaboratedProgram.{params_scope, core_program}
-use Rattle.machine_laws.specs.Members.{Nothing, OfExprs, OfStmts, OfFunction, OfGlobals, OfProgram}
+use Rattle.machine_laws.specs.Members.{Nothing, OfExprs, OfStmts, OfFunction, OfGlobals}
 use Rattle.machine_laws.specs.Widths.{IsDeclared, HasDeclaredKinds}
 use Rattle.machine_laws.proofs.MemberKinds.{member-declared}
 use Rattle.machine_laws.proofs.Elaborated.{HoldsOfFound, exprs, block}

@@ -1,5 +1,5 @@
 -- Items that enter a frame, or leave one, name no other members.
-use Rattle.std.proofs.Common.{◌≡◌, ℕ, ◌||◌, Bool, true, false, not, if◌then◌else◌, nat_eq, nat_lt, List, [], ◌∷◌, Option, Some, None, refl}
+use Rattle.std.proofs.Common.{◌≡◌, ℕ, Bool, nat_eq, nat_lt, List, [], ◌∷◌, Option, Some, None, refl}
 use Rattle.agxx_base.specs.declared.ids.ClassId.{ClassId}
 use Rattle.agxx_base.specs.declared.kind.NumKind.{NumKind}
 use Rattle.agxx_base.specs.declared.place.Place.{Place}
@@ -12,13 +12,12 @@ use Rattle.step_machine.specs.Setting.{Setting, function_at, global_object, is_o
 use Rattle.step_machine.specs.Item as it
 use Rattle.step_machine.specs.Item.{Ending, exprs_on}
 use Rattle.step_machine.specs.Frame.{Frame, Binding, pushed, popped, top, arguments, frame_of, ending_by}
-use Rattle.step_machine.specs.Entries.{with_entry}
 use Rattle.step_machine.specs.Effects as on
 use Rattle.step_machine.specs.Effects.{Deed, Act, goes, stops, stays}
-use Rattle.step_machine.specs.ActEnter.{depth_limit, after_arguments, has_room, entering, enter, run, run_of, run_by, enter_on, enter_on_of, destruct, destruct_of}
-use Rattle.step_machine.specs.ActCalls.{call_on, call_at, call_by, call_of, call, joined, leave, end, end_killing, end_destroying}
+use Rattle.step_machine.specs.ActEnter.{after_arguments, has_room, entering, enter, run, run_of, run_by, enter_on, enter_on_of, destruct, destruct_of}
+use Rattle.step_machine.specs.ActCalls.{call_on, call_at, call_by, call_of, call, joined, leave, end, end_destroying}
 use Rattle.step_machine.specs.ActObjects.{object_limit, make, make_by, build, build_by, unmake, unmake_by, new, new_by, new_of, delete, delete_by, delete_at, destruct_unused, is_used}
-use Rattle.step_machine.specs.ActThreads.{thread_limit, spawn, spawn_of, spawned}
+use Rattle.step_machine.specs.ActThreads.{thread_limit, spawn, spawn_of}
 use Rattle.machine_laws.specs.Members.{OfExprs, OfFunction, OfProgram, OfItems}
 use Rattle.machine_laws.proofs.Holding.{OfDeed, OfAct, if-act, exprs-on, function-items}
 

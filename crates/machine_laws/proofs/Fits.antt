@@ -1,5 +1,5 @@
 -- What turns and flips keep: frames name no other members, and each word of a live object fits in its width.
-use Rattle.std.proofs.Common.{◌≡◌, ℕ, zero, suc, ◌+◌, ◌^◌, ◌<◌, Bool, true, false, not, if◌then◌else◌, nat_lt, List, [], ◌∷◌, length, replicate, Option, Some, None, option_map, slice_get, refl, sym, ap, subst, ◌∙◌, arith}
+use Rattle.std.proofs.Common.{◌≡◌, ℕ, suc, ◌^◌, ◌<◌, Bool, true, false, if◌then◌else◌, List, [], ◌∷◌, length, replicate, Option, Some, None, option_map, slice_get, refl, sym, ap, subst, ◌∙◌, arith}
 use Rattle.std.proofs.Math.Pow.{pow-lt}
 use Rattle.std.proofs.lemmas.Nat.{pow_pos, xor_lt}
 use Rattle.std.proofs.lemmas.List.{length-replicate, get_or-replicate}
@@ -11,7 +11,7 @@ use Rattle.step_machine.specs.declared.datum.Datum.{Datum}
 use Rattle.step_machine.specs.declared.outcome.State.{State}
 use Rattle.step_machine.specs.declared.outcome.State.TheVariants as state
 use Rattle.step_machine.specs.Data.{bits_of}
-use Rattle.step_machine.specs.Setting.{word_number, is_of}
+use Rattle.step_machine.specs.Setting.{is_of}
 use Rattle.step_machine.specs.Item.{Item}
 use Rattle.step_machine.specs.Frame.{Frame}
 use Rattle.step_machine.specs.Effects as on
@@ -19,10 +19,9 @@ use Rattle.step_machine.specs.Effects.{Change, Deed, Turn, Act, goes, stops, wai
 use Rattle.step_machine.specs.Reads.{Reads}
 use Rattle.step_machine.specs.ActMembers.{is_other}
 use Rattle.step_machine.specs.Act.{act}
-use Rattle.step_machine.specs.Inserted.{is_inserted}
 use Rattle.step_machine.specs.Turn.{Thread, Settled, handed, done, settled}
 use Rattle.step_machine.specs.Machine.{state_after}
-use Rattle.step_machine.specs.Total.{Total, same, upd, reads, stored, zero_words, change_of, with_state, after_of, off_item, off_thread, landed_of, turn_of, next_if, next_of}
+use Rattle.step_machine.specs.Total.{Total, same, upd, reads, stored, zero_words, change_of, with_state, after_of, off_item, off_thread, turn_of, next_if, next_of}
 use Rattle.step_machine.specs.Flips.{FlippedOf, width_of, is_bit, inverted, with_bits_of, flipped_of_by, flipped_of}
 use Rattle.step_machine.proofs.Same.{same-eq}
 use Rattle.machine_laws.specs.Members.{Nothing, OfItem, OfItems, OfFrames}
@@ -167,8 +166,8 @@ module _ (m : Total) (fit : IsFit m) (t : ℕ) where
   turn-fit : (f : Frame) (i : Item) (fs : Thread) → OfItem (Holds m fit) i → OfItems (Holds m fit) f.items → OfFrames (Holds m fit) fs → IsFit (turn_of m t (Some (f, i, fs))).0
   turn-fit f i fs q h r =
       let kept : OfSettled (Holds m fit) (FitsNow m) (went f i fs) =
-          settled-kept (Holds m fit) (FitsNow m) (act m.setting (off fs) t i f) i f fs
-          (act-kept (Holds m fit) (FitsNow m) m.setting (off fs) fit.kinds (stores-fit fs) t i f q h) q h r in
+      settled-kept (Holds m fit) (FitsNow m) (act m.setting (off fs) t i f) i f fs
+      (act-kept (Holds m fit) (FitsNow m) m.setting (off fs) fit.kinds (stores-fit fs) t i f q h) q h r in
       after-fit (record m { frames = upd m.frames t (went f i fs).0 }) (with-thread m fit t (went f i fs).0 kept.0) t (went f i fs).1 kept.1
 
   item-fit : (f : Frame) (fs : Thread) (is : List Item) → OfItems (Holds m fit) is → OfFrames (Holds m fit) fs → IsFit (turn_of m t (off_item f fs is)).0

@@ -1,6 +1,6 @@
 -- What is said of an item's doing, where something holds of each member that is named: of the frame after it, of the frames that
 -- are made, and of what is stored.
-use Rattle.std.proofs.Common.{◌≡◌, ℕ, Bool, true, false, if◌then◌else◌, List, [], ◌∷◌, Option, Some, None}
+use Rattle.std.proofs.Common.{ℕ, Bool, true, false, if◌then◌else◌, List, [], ◌∷◌, Option, Some, None}
 use Rattle.agxx_base.specs.declared.ids.ClassId.{ClassId}
 use Rattle.agxx_base.specs.declared.kind.NumKind.{NumKind}
 use Rattle.cxx_core.specs.CoreExpr as c

@@ -1,6 +1,6 @@
 -- What is laid out class by class, each behind what its base has, stands along the line of classes.
 use Rattle.std.proofs.Common.{◌≡◌, ℕ, zero, suc, ◌+◌, ◌<◌, ◌≤◌, ◌⊎◌, inl, inr, List, [], ◌∷◌, ◌++◌, length, Option, Some, None, option_map, slice_get, refl, sym, ap, subst, ◌∙◌, arith, length-append}
-use Rattle.std.proofs.lemmas.Option.{none-some, slice_get_past, slice_get_within}
+use Rattle.std.proofs.lemmas.Option.{none-some, slice_get_past}
 use Rattle.std.proofs.lemmas.Bool.{cases_lt}
 use Rattle.agxx_base.specs.declared.ids.ClassId.{ClassId}
 use Rattle.cxx_names.specs.declared.declarations.ClassInfo.{ClassInfo}

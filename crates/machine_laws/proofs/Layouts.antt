@@ -1,9 +1,9 @@
 -- The layouts by declarations are those along the lines of the core form's classes.
-use Rattle.std.proofs.Common.{◌≡◌, ℕ, zero, suc, ◌+◌, ◌<◌, Bool, false, if◌then◌else◌, nat_eq, List, [], ◌∷◌, ◌++◌, length, map, Option, Some, None, is_some, slice_get, refl, sym, ap, subst, ◌∙◌, arith, append_assoc}
+use Rattle.std.proofs.Common.{◌≡◌, ℕ, zero, suc, ◌+◌, ◌<◌, false, if◌then◌else◌, nat_eq, List, [], ◌∷◌, ◌++◌, length, map, Option, Some, None, is_some, slice_get, refl, sym, ap, ◌∙◌, arith, append_assoc}
 use Rattle.std.proofs.lemmas.List.{append-nil}
 use Rattle.std.proofs.lemmas.Grind.{flat_map-append}
 use Rattle.std.proofs.lemmas.Option.{none-some, same_Some, slice_get_within}
-use Rattle.std.proofs.lemmas.Bool.{eqb-true, ne_eqb, cond-false}
+use Rattle.std.proofs.lemmas.Bool.{ne_eqb}
 use Rattle.agxx_base.specs.declared.ids.ClassId.{ClassId}
 use Rattle.agxx_base.specs.declared.kind.NumKind.{NumKind}
 use Rattle.cxx_tree.specs.declared.program.Access.{Access}
@@ -15,23 +15,21 @@ use Rattle.cxx_names.specs.declared.declarations.ClassInfo.{ClassInfo}
 use Rattle.cxx_names.specs.declared.declarations.Declared.{Declared}
 use Rattle.cxx_names.specs.Tables.{named, with_name}
 use Rattle.cxx_names.specs.LookUp.{pointer_by, base_by}
-use Rattle.cxx_names.specs.Declarations as d
 use Rattle.cxx_names.specs.Declarations.{with_items, with_member, with_method, with_ctor, with_dtor, default_access, class_begun, class_items, class_named, with_class, with_decl, with_decls, empty, declared}
-use Rattle.cxx_layout.specs.declared.layouts.WordInfo.{WordInfo}
 use Rattle.cxx_layout.specs.Layouts as lay
 use Rattle.cxx_layout.specs.Layouts.{layout, kind_of}
-use Rattle.cxx_layout.specs.Parts.{own_part, parts}
+use Rattle.cxx_layout.specs.Parts.{own_part}
 use Rattle.cxx_core.specs.CoreProgram.{CoreWord, CoreClass}
 use Rattle.cxx_core.specs.Meanings.{value_type, number_kind, kind_named}
 use Rattle.cxx_core.specs.ElaboratedProgram as k
 use Rattle.cxx_core.specs.ElaboratedProgram.{core_class, decls_classes, core_program}
-use Rattle.step_machine.specs.Setting.{Setting, class_at, line}
+use Rattle.step_machine.specs.Setting.{Setting, class_at}
 use Rattle.machine_laws.specs.Locates.{IsDistinct}
-use Rattle.machine_laws.specs.Layouts.{HasDistinctMembers, member_names, along, word_of, words_by, words_in, words_along, part_by, part_in, setting_of, LayoutsAgree}
+use Rattle.machine_laws.specs.Layouts.{HasDistinctMembers, member_names, word_of, words_by, words_in, part_by, part_in, setting_of, LayoutsAgree}
 use Rattle.machine_laws.proofs.Lists.{none-one-more}
 use Rattle.machine_laws.proofs.Bases.{base-at, has-bases}
 use Rattle.machine_laws.proofs.Along.{count-along, machine-words, stands-at}
-use Rattle.machine_laws.proofs.LaidOut.{declared_words, all_after, id, Aligned, layouts-are, parts-are, laid-out}
+use Rattle.machine_laws.proofs.LaidOut.{declared_words, id, Aligned, layouts-are, parts-are, laid-out}
 
 -- ---- the words of a class
 
@@ -85,7 +83,7 @@ module _ (known : Declared) (class : ClassId) where
       let entry : MemberInfo = record { type_name = m.type_name.item; access = shown } in
       let more : with_name info.members name entry ≡ info.members ++ (name, entry) ∷ [] = more-members info.members name entry (new 0 name refl) in
       let later : AreNew is (with_name info.members name entry) =
-          λ j x e. ap (λ es. named es x) more ∙ none-one-more info.members name entry x (new (suc j) x e) (later-other name (member_names is) distinct j x e) in
+      λ j x e. ap (λ es. named es x) more ∙ none-one-more info.members name entry x (new (suc j) x e) (later-other name (member_names is) distinct j x e) in
       items-words is (with_member (record { info = info; shown = shown; count = count; numbered = n }) m).info shown (suc count) n later (later-distinct name (member_names is) distinct)
       ∙ ap (λ es. lay.own_words class es ++ map (word_of class) (k.words known is)) more
       ∙ ap (λ l. l ++ map (word_of class) (k.words known is)) (flat_map-append (lay.word_of class) info.members ((name, entry) ∷ []))
@@ -101,7 +99,7 @@ module _ (known : Declared) (class : ClassId) where
 -- ---- the classes of a program, both ways
 
 module _ (names : List (List ℕ)) where
-  abbrev infos : Declared → List p.DeclTree → List ClassInfo
+  abbrev pub infos : Declared → List p.DeclTree → List ClassInfo
   infos found [] = []
   infos found (p.class c ∷ xs) = (class_items found c).info ∷ infos (with_class found c) xs
   infos found (p.class_name c ∷ xs) = infos (with_decl names found (p.class_name c)) xs
@@ -109,7 +107,7 @@ module _ (names : List (List ℕ)) where
   infos found (p.proto f ∷ xs) = infos (with_decl names found (p.proto f)) xs
   infos found (p.global g ∷ xs) = infos (with_decl names found (p.global g)) xs
 
-  classes-are : (xs : List p.DeclTree) (found : Declared) → (with_decls names found xs).classes ≡ found.classes ++ infos found xs
+  pub classes-are : (xs : List p.DeclTree) (found : Declared) → (with_decls names found xs).classes ≡ found.classes ++ infos found xs
   classes-are [] found = sym (append-nil found.classes)
   classes-are (p.class c ∷ xs) found = classes-are xs (with_class found c) ∙ append_assoc found.classes ((class_items found c).info ∷ []) (infos (with_class found c) xs)
   classes-are (p.class_name c ∷ xs) found = classes-are xs (with_decl names found (p.class_name c))
@@ -176,41 +174,29 @@ module _ (names : List (List ℕ)) (q : p.ProgramTree) where
       let z : 0 + i ≡ i = omega arith in
       base-at known q.decls 0 i x at ∙ ap (λ n. base_by (slice_get known.classes n)) z ∙ ap base_by e
 
-  no-more : (i : ℕ) (x : CoreClass) → class_at s (id i) ≡ Some x → i < length known.classes
+  pub no-more : (i : ℕ) (x : CoreClass) → class_at s (id i) ≡ Some x → i < length known.classes
   no-more i x e =
       let h = slice_get_within s.program.classes i x e in
       let all = as-many names known q.decls empty 0 in
       let whole = ap length known-is in
       omega arith
 
-  words-at : HasDistinctMembers q → (i : ℕ) (info : ClassInfo) → slice_get known.classes i ≡ Some info → Aligned declared_words (words_in s) s (has-bases names q) i info
+  pub words-at : HasDistinctMembers q → (i : ℕ) (info : ClassInfo) → slice_get known.classes i ≡ Some info → Aligned declared_words (words_in s) s (has-bases names q) i info
   words-at distinct i info e =
       let r = pair i info e in
       let x = core_class known (id i) r.0 in
-      let at : class_at s (id i) ≡ Some x = at-class i info e in
-      (x, at, base-is i info x e at,
-      ap (λ o. map (word_of (id i)) (words_by o)) at
-      ∙ sym (class-words known (id i) r.1 r.0 (distinct.of_class r.2 r.0 r.3))
-      ∙ ap (λ (y : ClassInfo). lay.own_words (id i) y.members) (sym r.4))
+      let at : class_at s (id i) ≡ Some x = at-class i info e in (
+        x,
+        at,
+        base-is i info x e at,
+        ap (λ o. map (word_of (id i)) (words_by o)) at
+            ∙ sym (class-words known (id i) r.1 r.0 (distinct.of_class r.2 r.0 r.3))
+            ∙ ap (λ (y : ClassInfo). lay.own_words (id i) y.members) (sym r.4),
+      )
 
-  parts-at : (i : ℕ) (info : ClassInfo) → slice_get known.classes i ≡ Some info → Aligned (own_part names) (part_in names known) s (has-bases names q) i info
+  pub parts-at : (i : ℕ) (info : ClassInfo) → slice_get known.classes i ≡ Some info → Aligned (own_part names) (part_in names known) s (has-bases names q) i info
   parts-at i info e =
       let r = pair i info e in
       let x = core_class known (id i) r.0 in
       let at : class_at s (id i) ≡ Some x = at-class i info e in
       (x, at, base-is i info x e at, ap (part_by names (id i)) e)
-
-pub layouts-agree : LayoutsAgree
-layouts-agree = record {
-  of_words = λ names q distinct class.
-      ap (λ l. slice_get l class.0) (layouts-are [] (declared names q).classes)
-      ∙ laid-out declared_words (words_in (setting_of names q)) (setting_of names q) (has-bases names q) (declared names q).classes
-      (words-at names q distinct) (no-more names q) class;
-  of_parts = λ names q class.
-      ap (λ l. slice_get l class.0) (parts-are names [] (declared names q).classes)
-      ∙ laid-out (own_part names) (part_in names (declared names q)) (setting_of names q) (has-bases names q) (declared names q).classes
-      (parts-at names q) (no-more names q) class;
-  of_machine = machine-words;
-  of_count = count-along;
-  of_located = stands-at;
-}

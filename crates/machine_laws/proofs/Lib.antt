@@ -14,3 +14,5 @@ pub mod MemberKinds
 pub mod Elaborated
 pub mod ElaboratedPrograms
 pub mod Widths
+pub mod DistinctMembers
+pub mod Agree

@@ -4,7 +4,7 @@ use Rattle.std.proofs.lemmas.List.Sums.{sum_by-cons}
 use Rattle.std.proofs.lemmas.Option.{slice_get_within}
 use Rattle.agxx_base.specs.declared.ids.ClassId.{ClassId}
 use Rattle.cxx_core.specs.CoreProgram.{CoreClass}
-use Rattle.step_machine.specs.Setting.{Setting, class_at, chain, linked, lineage, line_in, linked_ids, line}
+use Rattle.step_machine.specs.Setting.{Setting, class_at, chain, linked, line_in, linked_ids, line}
 use Rattle.machine_laws.specs.Locate.{own_by, own_count, count}
 use Rattle.machine_laws.specs.Locates.{HasBasesBefore}
 

@@ -1,5 +1,5 @@
 -- Numbers of words and mutexes, and what is located by them, are each other's inverse.
-use Rattle.std.proofs.Common.{◌≡◌, ℕ, suc, ◌+◌, ◌-◌, ◌<◌, ◌≤◌, ◌⊎◌, inl, inr, Bool, true, false, ◌||◌, if◌then◌else◌, nat_eq, nat_lt, List, [], ◌∷◌, length, map, Option, Some, None, option_map, is_some, slice_get, sum_by, refl, sym, ap, subst, ◌∙◌, arith}
+use Rattle.std.proofs.Common.{◌≡◌, ℕ, ◌+◌, ◌-◌, ◌<◌, ◌≤◌, ◌⊎◌, inl, inr, Bool, true, false, ◌||◌, nat_eq, nat_lt, List, [], length, map, Option, Some, None, option_map, is_some, slice_get, sum_by, refl, sym, ap, subst, ◌∙◌, arith}
 use Rattle.std.specs.List.{position_or_len}
 use Rattle.std.proofs.lemmas.List.Sums.{sum_by-cons}
 use Rattle.std.proofs.lemmas.Option.{none-some, same_Some, slice_get-map, slice_get_within}
@@ -8,7 +8,7 @@ use Rattle.agxx_base.specs.declared.ids.ClassId.{ClassId}
 use Rattle.cxx_core.specs.CoreProgram.{CoreWord, CoreClass}
 use Rattle.step_machine.specs.Setting.{Setting, class_at, line, stands_in, is_of, word_count, mutex_count, word_in, mutex_in, word_number, mutex_number}
 use Rattle.machine_laws.specs.Locate.{Located, own_words, own_mutexes, own_by, own_count, count, above_by, above_count, number_at, located_on, located_in, locate}
-use Rattle.machine_laws.specs.Locates.{HasBasesBefore, IsDistinct, IsAt, AreLocated, NamesAreLocated, WordsAreLocated}
+use Rattle.machine_laws.specs.Locates.{HasBasesBefore, IsDistinct, IsAt, AreLocated, WordsAreLocated}
 use Rattle.machine_laws.proofs.Lists.{position-of}
 use Rattle.machine_laws.proofs.Lines.{count-line, none-line, missing-line, line-of, by-bases}
 use Rattle.machine_laws.proofs.Bases.{has-bases}
@@ -132,8 +132,8 @@ module _ (of : CoreClass → ℕ) (s : Setting) where
       back-in : (p : Located) → IsAt of s (Some c) p → locate of s (Some c) (number_at of s p) ≡ Some p
       back-in p at =
           elim (or_cases (nat_eq p.0.0 c.0) (is_of s x.base (Some p.0)) (sym (is-of-is p.0) ∙ at.is_of)) [
-          | inl t ↦ back-own p at t
-          | inr t ↦ back-above p (record { is_of = t; within = at.within })
+            | inl t ↦ back-own p at t
+            | inr t ↦ back-above p (record { is_of = t; within = at.within })
           ]
 
       each-in : (n : ℕ) → n < count of s (Some c) → is_some (locate of s (Some c) n) ≡ true
@@ -189,10 +189,10 @@ module _ (s : Setting) (bases : HasBasesBefore s.program) where
       → locate own_words s class (word_number s own word.name) ≡ Some (own, i)
   located-word class own found i word is e distinct f =
       let at : position_or_len (λ (w : CoreWord). nat_eq w.name word.name) found.words ≡ i =
-          named-at (λ (w : CoreWord). w.name) (λ (w : CoreWord). nat_eq w.name word.name) found.words i word distinct.apart f
-          (eq-eqb word.name word.name refl) (λ w t. eqb-true w.name word.name t) in
+      named-at (λ (w : CoreWord). w.name) (λ (w : CoreWord). nat_eq w.name word.name) found.words i word distinct.apart f
+      (eq-eqb word.name word.name refl) (λ w t. eqb-true w.name word.name t) in
       let sum : word_number s own word.name ≡ number_at own_words s (own, i) =
-          ap (word_in s word.name) e ∙ ap (λ m. word_count s found.base + m) at ∙ sym (ap (λ o. above_by own_words s o + i) e) in
+      ap (word_in s word.name) e ∙ ap (λ m. word_count s found.base + m) at ∙ sym (ap (λ o. above_by own_words s o + i) e) in
       let within : i < own_count own_words s own = within-own own_words own found i e (slice_get_within found.words i word f) in
       ap (locate own_words s class) sum ∙ (at-class own_words s bases class).back (own, i) (record { is_of = is; within = within })
 
@@ -201,10 +201,10 @@ module _ (s : Setting) (bases : HasBasesBefore s.program) where
       → locate own_mutexes s class (mutex_number s own name) ≡ Some (own, i)
   located-mutex class own found i name is e distinct f =
       let at : position_or_len (nat_eq name) found.mutexes ≡ i =
-          position-of (nat_eq name) found.mutexes i name f (eq-eqb name name refl)
-          (λ k y h g. false_from_ne_true (nat_eq name y) (λ t. other k y h g (eqb-true name y t))) in
+      position-of (nat_eq name) found.mutexes i name f (eq-eqb name name refl)
+      (λ k y h g. false_from_ne_true (nat_eq name y) (λ t. other k y h g (eqb-true name y t))) in
       let sum : mutex_number s own name ≡ number_at own_mutexes s (own, i) =
-          ap (mutex_in s name) e ∙ ap (λ m. mutex_count s found.base + m) at ∙ sym (ap (λ o. above_by own_mutexes s o + i) e) in
+      ap (mutex_in s name) e ∙ ap (λ m. mutex_count s found.base + m) at ∙ sym (ap (λ o. above_by own_mutexes s o + i) e) in
       let within : i < own_count own_mutexes s own = within-own own_mutexes own found i e (slice_get_within found.mutexes i name f) in
       ap (locate own_mutexes s class) sum ∙ (at-class own_mutexes s bases class).back (own, i) (record { is_of = is; within = within })
     where

@@ -1,5 +1,5 @@
 -- The member that a name means is declared, with its kind, in the core form's class.
-use Rattle.std.proofs.Common.{◌≡◌, ℕ, zero, suc, ◌+◌, Bool, true, false, cond, if◌then◌else◌, nat_eq, List, [], ◌∷◌, ◌++◌, Option, Some, None, option_map, is_some, slice_get, refl, sym, ap, subst, ◌∙◌, arith}
+use Rattle.std.proofs.Common.{◌≡◌, ℕ, suc, Bool, true, false, cond, if◌then◌else◌, nat_eq, List, [], ◌∷◌, ◌++◌, Option, Some, None, option_map, is_some, refl, sym, ap, subst, ◌∙◌}
 use Rattle.std.specs.List.{find}
 use Rattle.std.proofs.lemmas.Option.{none-some, same_Some}
 use Rattle.std.proofs.lemmas.Bool.{eqb-true, eq-eqb, cond-true}
@@ -19,11 +19,8 @@ use Rattle.cxx_core.specs.CoreProgram.{CoreWord}
 use Rattle.cxx_core.specs.Meanings.{kind_named}
 use Rattle.cxx_core.specs.ElaboratedProgram as k
 use Rattle.cxx_core.specs.ElaboratedProgram.{core_program, core_class}
-use Rattle.step_machine.specs.Setting.{class_at}
-use Rattle.machine_laws.specs.Layouts.{setting_of}
 use Rattle.machine_laws.specs.Widths.{kind_in, IsDeclared}
 use Rattle.machine_laws.proofs.Lists.{none-one-more}
-use Rattle.machine_laws.proofs.LaidOut.{id}
 use Rattle.machine_laws.proofs.Layouts as layouts
 
 -- ---- what a look-up along a lineage finds
@@ -52,7 +49,7 @@ module _ {V : Type 0} where
   some-one-more (x ∷ es) n t name v e =
       some-old (nat_eq name x.0) x.1 v (named es name) (named (es ++ (n, t) ∷ []) name) (λ f. some-one-more es n t name v f) e
 
-  some-with : (es : List (ℕ × V)) (n : ℕ) (t : V) (name : ℕ) (v : V) → named es name ≡ Some v → named (with_name es n t) name ≡ Some v
+  pub some-with : (es : List (ℕ × V)) (n : ℕ) (t : V) (name : ℕ) (v : V) → named es name ≡ Some v → named (with_name es n t) name ≡ Some v
   some-with es n t name v e = by (is_some (named es n))
     where
       by : (b : Bool) → named (if b then es else es ++ (n, t) ∷ []) name ≡ Some v
@@ -74,7 +71,7 @@ module _ {V : Type 0} where
       by true f later = absurd (none-some x.1 (sym f))
       by false f later = later f
 
-  new-with : (es : List (ℕ × V)) (n : ℕ) (t : V) → named es n ≡ None → named (with_name es n t) n ≡ Some t
+  pub new-with : (es : List (ℕ × V)) (n : ℕ) (t : V) → named es n ≡ None → named (with_name es n t) n ≡ Some t
   new-with es n t e = ap (λ (o : Option V). named (if is_some o then es else es ++ (n, t) ∷ []) n) e ∙ new-one-more es n t e
 
 -- ---- the first member of a name is the first word of it, if it is a word
@@ -134,8 +131,8 @@ module _ (known : Declared) (name : ℕ) where
     of-member true t e later =
         let same : x.name.item.0 ≡ name = eqb-true x.name.item.0 name t in
         let here : named (with_name info.members x.name.item.0 entry) name ≡ Some entry =
-            subst (λ z. named (with_name info.members x.name.item.0 entry) z ≡ Some entry) same
-            (new-with info.members x.name.item.0 entry (ap (named info.members) same ∙ new)) in
+        subst (λ z. named (with_name info.members x.name.item.0 entry) z ≡ Some entry) same
+        (new-with info.members x.name.item.0 entry (ap (named info.members) same ∙ new)) in
         let found : entry ≡ m = same_Some entry m (sym (stays-named is after shown (suc count) n entry here) ∙ e) in
         word-here x.name.item.0 kind (k.words known is) t (kind_named known x.type_name.item) (ap (λ (y : MemberInfo). kind_named known y.type_name) found ∙ q)
     of-member false t e later =

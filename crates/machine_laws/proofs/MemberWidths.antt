@@ -1,5 +1,5 @@
 -- The width of the word that a member is, by the kind that its class declares.
-use Rattle.std.proofs.Common.{◌≡◌, ℕ, ◌+◌, ◌^◌, ◌<◌, Bool, true, nat_eq, List, length, Option, Some, None, option_map, slice_get, refl, sym, ap, subst, ◌∙◌, arith}
+use Rattle.std.proofs.Common.{◌≡◌, ℕ, ◌+◌, ◌^◌, ◌<◌, Bool, true, nat_eq, length, Option, Some, None, option_map, slice_get, refl, sym, ap, subst, ◌∙◌, arith}
 use Rattle.std.specs.List.{position_or_len, find}
 use Rattle.std.proofs.lemmas.List.Folds.{find_at}
 use Rattle.std.proofs.lemmas.Option.{none-some, same_Some, slice_get-map, slice_get_within}
@@ -58,10 +58,10 @@ module _ (s : Setting) (bases : HasBasesBefore s.program) (live class : ClassId)
       let within : i < own_count own_words s class = omega arith in
       let found : locate own_words s (Some live) n ≡ Some (class, i) = (at-class own_words s bases (Some live)).back (class, i) (record { is_of = is; within = within }) in
       let told : slice_get (words_along s (Some live)) n ≡ Some (word_of class word) =
-          stands-at s bases (Some live) n ∙ ap (located_word s) found
-          ∙ ap (λ o. option_map (word_of class) (slice_get (words_by o) i)) e ∙ ap (option_map (word_of class)) at in
+      stands-at s bases (Some live) n ∙ ap (located_word s) found
+      ∙ ap (λ o. option_map (word_of class) (slice_get (words_by o) i)) e ∙ ap (option_map (word_of class)) at in
       let machine : slice_get (words_of s live) n ≡ Some (core_word (word_of class word)) =
-          ap (λ l. slice_get l n) (sym (machine-words s live)) ∙ slice_get-map core_word (words_along s (Some live)) n ∙ ap (option_map core_word) told in
+      ap (λ l. slice_get l n) (sym (machine-words s live)) ∙ slice_get-map core_word (words_along s (Some live)) n ∙ ap (option_map core_word) told in
       ap (width_of s live) sum ∙ ap width_by machine ∙ ap width kind
 
   of-found : (x : CoreClass) → class_at s class ≡ Some x → (o : Option CoreWord) → find IsNamed x.words ≡ o → option_map (λ (w : CoreWord). w.kind) o ≡ Some k → HasWidth

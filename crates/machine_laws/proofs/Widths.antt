@@ -1,5 +1,5 @@
 -- Words fit in their widths from the start of a run on.
-use Rattle.std.proofs.Common.{◌≡◌, ℕ, zero, suc, ◌^◌, ◌<◌, List, [], ◌∷◌, Option, Some, None, slice_get, refl, sym, ap, subst}
+use Rattle.std.proofs.Common.{◌≡◌, ℕ, zero, suc, ◌^◌, ◌<◌, List, [], ◌∷◌, Some, slice_get, sym, ap, subst}
 use Rattle.std.proofs.lemmas.Option.{none-some}
 use Rattle.agxx_base.specs.declared.ids.ClassId.{ClassId}
 use Rattle.agxx_base.specs.declared.kind.NumKind.{NumKind}
@@ -8,16 +8,18 @@ use Rattle.cxx_core.specs.CoreProgram.{CoreGlobal}
 use Rattle.step_machine.specs.Setting.{Setting}
 use Rattle.step_machine.specs.Item as it
 use Rattle.step_machine.specs.Item.{Item}
-use Rattle.step_machine.specs.World.{word_by, class_by}
+use Rattle.step_machine.specs.World.{word_by}
 use Rattle.step_machine.specs.Turn.{thread_at}
-use Rattle.step_machine.specs.Start.{makes_on, unmakes_on, start_items, start_frame, objects_of, start}
+use Rattle.step_machine.specs.Start.{makes_on, unmakes_on, start_frame, objects_of, start}
 use Rattle.step_machine.specs.Machine.{Machine}
 use Rattle.step_machine.specs.Total.{reading}
 use Rattle.step_machine.specs.Flips.{width_of}
 use Rattle.step_machine.proofs.Turns.{agree}
 use Rattle.machine_laws.specs.Locates.{HasBasesBefore}
 use Rattle.machine_laws.specs.Members.{OfGlobals, OfItems, OfFrames}
-use Rattle.machine_laws.specs.Widths.{IsDeclared, HasDeclaredKinds, IsFit, Event, turn, flip, after_event, after_events, WidthsAreKept}
+use Rattle.machine_laws.specs.Widths.{IsDeclared, HasDeclaredKinds, HasWidths, IsFit, Event, turn, flip, after_event, after_events, WidthsAreKept}
+use Rattle.machine_laws.specs.Layouts.{setting_of}
+use Rattle.machine_laws.proofs.Bases.{has-bases}
 use Rattle.machine_laws.proofs.ElaboratedPrograms.{declared-kinds}
 use Rattle.machine_laws.proofs.Fits.{zero-fits, next-fit, flip-fit}
 
@@ -73,11 +75,15 @@ events-fit : (es : List Event) (m : Machine) → IsFit (reading m) → IsFit (re
 events-fit [] m fit = fit
 events-fit (e ∷ es) m fit = events-fit es (after_event m e) (event-fit m e fit)
 
+runs-fit : (s : Setting) → HasBasesBefore s.program → HasDeclaredKinds s.program → (events : List Event) → HasWidths (after_events (start s) events)
+runs-fit s bases kinds events = (events-fit events (start s) (start-fit s bases kinds)).words
+
 pub widths-are-kept : WidthsAreKept
 widths-are-kept = record {
   of_programs = declared-kinds;
   of_start = start-fit;
   of_next = next-fit;
   of_flip = flip-fit;
-  of_runs = λ s bases kinds events. (events-fit events (start s) (start-fit s bases kinds)).words;
+  of_runs = runs-fit;
+  of_program_runs = λ names q. runs-fit (setting_of names q) (has-bases names q) (declared-kinds names q);
 }

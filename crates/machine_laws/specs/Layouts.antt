@@ -8,12 +8,13 @@ use Rattle.cxx_names.specs.declared.declarations.ClassInfo.{ClassInfo}
 use Rattle.cxx_names.specs.declared.declarations.Declared.{Declared}
 use Rattle.cxx_names.specs.Declarations as d
 use Rattle.cxx_names.specs.Declarations.{declared}
+use Rattle.cxx_rules.specs.Rules.{declared_twice}
 use Rattle.cxx_layout.specs.declared.layouts.WordInfo.{WordInfo}
 use Rattle.cxx_layout.specs.Layouts.{layout}
 use Rattle.cxx_layout.specs.Parts.{own_part, parts}
 use Rattle.cxx_core.specs.CoreProgram.{CoreWord, CoreClass}
 use Rattle.cxx_core.specs.ElaboratedProgram.{core_program}
-use Rattle.step_machine.specs.Setting.{Setting, class_at, line, word_count, word_number}
+use Rattle.step_machine.specs.Setting.{Setting, class_at, line, word_count}
 use Rattle.step_machine.specs.Flips.{words_of}
 use Rattle.machine_laws.specs.Locate.{Located, own_words, locate}
 use Rattle.machine_laws.specs.Locates.{HasBasesBefore, IsDistinct}
@@ -25,7 +26,7 @@ member_names [] = []
 member_names (p.member m ∷ items) = m.name.item.0 ∷ member_names items
 member_names (_ ∷ items) = member_names items
 
--- no class declares two members of one name, as no accepted program does
+-- no class declares two members of one name
 pub record HasDistinctMembers (q : ProgramTree) : Type 0 where
   pub of_class : (i : ℕ) (class : ClassTree) → slice_get q.decls i ≡ Some (p.class class) → IsDistinct (member_names class.items)
 
@@ -73,6 +74,8 @@ abbrev pub setting_of : List (List ℕ) → ProgramTree → Setting
 setting_of names q = record { names = names; program = core_program names q }
 
 pub record LayoutsAgree : Type 0 where
+  -- where nothing is declared twice, no class declares two members of one name
+  pub of_accepted : (names : List (List ℕ)) (q : ProgramTree) → declared_twice names q ≡ [] → HasDistinctMembers q
   pub of_words : (names : List (List ℕ)) (q : ProgramTree) → HasDistinctMembers q → (class : ClassId)
       → layout (declared names q) class ≡ option_map (λ found. words_along (setting_of names q) (Some class)) (class_at (setting_of names q) class)
   pub of_parts : (names : List (List ℕ)) (q : ProgramTree) (class : ClassId)

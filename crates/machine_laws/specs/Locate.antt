@@ -2,7 +2,7 @@
 -- is counted is a number for each class.
 use Rattle.std.specs.Prelude.{ℕ, ◌+◌, ◌-◌, nat_lt, List, [], ◌∷◌, length, sum_by, Option, Some, None, if◌then◌else◌}
 use Rattle.agxx_base.specs.declared.ids.ClassId.{ClassId}
-use Rattle.cxx_core.specs.CoreProgram.{CoreWord, CoreClass}
+use Rattle.cxx_core.specs.CoreProgram.{CoreClass}
 use Rattle.step_machine.specs.Setting.{Setting, class_at, lineage, line}
 
 -- the words, and the mutexes, that a class itself declares

@@ -1,5 +1,5 @@
 -- Numbers of words and mutexes, and what is located by them, are each other's inverse.
-use Rattle.std.specs.Prelude.{◌≡◌, ℕ, ◌<◌, ◌≤◌, nat_eq, true, List, map, Option, Some, None, is_some, slice_get}
+use Rattle.std.specs.Prelude.{◌≡◌, ℕ, ◌<◌, ◌≤◌, true, List, map, Option, Some, None, is_some, slice_get}
 use Rattle.agxx_base.specs.declared.ids.ClassId.{ClassId}
 use Rattle.cxx_tree.specs.ProgramTree.{ProgramTree}
 use Rattle.cxx_core.specs.CoreProgram.{CoreWord, CoreClass, CoreProgram}

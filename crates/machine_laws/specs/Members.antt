@@ -1,6 +1,6 @@
 -- Something holds of each member that is named: in an expression, in a statement, in what is left to do in a frame, in a
 -- program. It is said of a member's class, its name and the kind with which it is named.
-use Rattle.std.specs.Prelude.{◌≡◌, ℕ, Bool, List, [], ◌∷◌, Option, Some, None, slice_get}
+use Rattle.std.specs.Prelude.{◌≡◌, ℕ, List, [], ◌∷◌, Option, Some, None, slice_get}
 use Rattle.agxx_base.specs.declared.ids.ClassId.{ClassId}
 use Rattle.agxx_base.specs.declared.kind.NumKind.{NumKind}
 use Rattle.cxx_core.specs.CoreExpr as c

@@ -13,6 +13,7 @@ use Rattle.step_machine.specs.Start.{start}
 use Rattle.step_machine.specs.Total.{Total, reading, next_of}
 use Rattle.step_machine.specs.Flips.{width_of, flipped, flipped_of}
 use Rattle.machine_laws.specs.Locates.{HasBasesBefore}
+use Rattle.machine_laws.specs.Layouts.{setting_of}
 use Rattle.machine_laws.specs.Members.{OfProgram, OfFrames}
 
 -- ---- kinds
@@ -74,3 +75,5 @@ pub record WidthsAreKept : Type 0 where
   pub of_flip : (m : Total) (o w bit : ℕ) → IsFit m → IsFit (flipped_of o w bit m).0
   -- in every run
   pub of_runs : (s : Setting) → HasBasesBefore s.program → HasDeclaredKinds s.program → (events : List Event) → HasWidths (after_events (start s) events)
+  -- of every program
+  pub of_program_runs : (names : List (List ℕ)) (q : ProgramTree) (events : List Event) → HasWidths (after_events (start (setting_of names q)) events)
