@@ -14,7 +14,7 @@ use Rattle.machine_laws.specs.Locate.{own_words, locate}
 use Rattle.machine_laws.specs.Layouts.{word_of, words_by, words_along, core_word, located_word}
 use Rattle.machine_laws.proofs.Lines.{none-line}
 use Rattle.machine_laws.proofs.Locates.{words-are-located}
-use Rattle.machine_laws.proofs.Layouts.{layouts-agree}
+use Rattle.machine_laws.proofs.Agree.{layouts-agree}
 use Rattle.fault_model.specs.Parts.{PartWord, is_counter, declares_part, part_words, part_words_by, number_of, words_with_class, words_in_parts, part_word_at}
 use Rattle.fault_model.specs.Admissible.{Hits, is_admissible, is_admissible_at}
 use Rattle.fault_model.specs.LaidOut.{IsLaidOut, PartsAreLaidOut}
