@@ -1,0 +1,6 @@
+pub mod Document
+pub mod Texts
+pub mod Expressions
+pub mod Statements
+pub mod Programs
+pub mod Printing

@@ -1,0 +1,7 @@
+//! The canonical text of a program.
+#![tactic(auto)]
+
+mod expr;
+mod printer;
+mod texts;
+mod words;
