@@ -13,6 +13,10 @@ pub record State : Type 0 where
   pub failed : Bool
   pub count : ℕ
 
+-- a printer at its start
+abbrev pub begun : List (List ℕ) → State
+begun names = record { names = names; held = []; failed = false; count = 0 }
+
 abbrev pub with_byte : State → ℕ → State
 with_byte s b = record s { held = s.held ++ b ∷ []; count = min (s.count + 1) (2 ^ 64 - 1) }
 

@@ -243,7 +243,9 @@ impl<'n> Printer<'n> {
             Expr::Left(left) => self.left(sink, *left),
             Expr::Unary(_, op, operand) => self.unary(sink, *op, operand.get()),
             Expr::Binary(_, op, left, right) => {
-                self.binary(sink, op.item, left.get(), right.get());
+                self.expr(sink, left.get());
+                self.sign_and_right(sink, op.item, right.get());
+                return;
             }
             Expr::Paren(_, inner) => self.parenthesized(sink, inner.get()),
             Expr::Cast(_, type_name, operand) => self.cast(sink, *type_name, operand.get()),
@@ -266,11 +268,10 @@ impl<'n> Printer<'n> {
     }
 
     #[cycle(expr)]
-    fn binary<O: Sink>(&mut self, sink: &mut O, op: BinOp, left: &Expr, right: &Expr)
+    fn sign_and_right<O: Sink>(&mut self, sink: &mut O, op: BinOp, right: &Expr)
         ensures { Prints O.taken O.faults (self.old, sink.old) (self.new, sink.new)
-            (form.binary op (form.expr (expr_tree left.now)) (form.expr (expr_tree right.now))) }
+            (form.spaced (binary_sign op) ⨾ form.expr (expr_tree right.now)) }
     {
-        self.expr(sink, left);
         self.spaced(sink, binary_text(op));
         self.expr(sink, right);
     }
@@ -318,9 +319,13 @@ impl<'n> Printer<'n> {
         ensures { Prints O.taken O.faults (self.old, sink.old) (self.new, sink.new)
             (form.separated (exprs_tree exprs.now)) }
     {
-        if let [first, rest @ ..] = exprs {
-            self.expr(sink, first);
-            self.after_commas(sink, rest);
+        match exprs {
+            [] => {}
+            [first, rest @ ..] => {
+                self.expr(sink, first);
+                self.after_commas(sink, rest);
+                return;
+            }
         }
     }
 

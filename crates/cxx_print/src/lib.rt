@@ -3,10 +3,9 @@
 //!
 //! Read `Document` (words, and what stands between them) and `Texts` (the text of each), then `Expressions`,
 //! `Statements` and `Programs`, which have the form of each line of the grammar. `Printing` is of the code alone.
-#![tactic(auto)]
+#![tactic(auto, using(crate::proofs::Printed::printing))]
 
 mod expr;
-mod print;
 mod printer;
 mod program;
 mod simple;
@@ -14,5 +13,6 @@ mod sinks;
 mod stmt;
 mod texts;
 mod words;
+mod writing;
 
-pub use print::{print, text_len, to_text};
+pub use writing::{print, text_len, to_text};

@@ -1,9 +1,9 @@
 //! A printer: it hands bytes on to a sink in pieces, and counts them.
 
-ghost use Rattle.std.specs.Prelude.{◌≡◌, ◌<◌, ◌∷◌, [], false, length};
-ghost use Rattle.cxx_print.specs.Printing.{Appends, with_byte};
+ghost use Rattle.std.specs.Prelude.{◌≡◌, ◌<◌, ◌∷◌, [], true, false, is_err, length};
+ghost use Rattle.cxx_print.specs.Printing.{Appends, begun, with_byte};
 
-use agxx_base::{Names, Piece, Sink, write_whole};
+use agxx_base::{Failed, Names, Piece, Sink, write_whole};
 use std::marker::Model;
 
 /// What is held of a text, up to a piece, until the sink is given it. Once the sink has failed, it is given no more.
@@ -35,7 +35,7 @@ impl<'n> Model for Printer<'n> {
 
 impl<'n> Printer<'n> {
     pub(crate) fn new(names: &'n Names) -> Printer<'n>
-        ensures { result ≡ record { names = names.now; held = []; failed = false; count = 0 } }
+        ensures { result ≡ begun names.now }
     {
         Printer {
             names,
@@ -51,7 +51,14 @@ impl<'n> Printer<'n> {
         self.names
     }
 
-    pub(crate) fn failed(&self) -> bool
+    /// How the printing ended.
+    pub(crate) fn outcome(&self) -> Result<(), Failed>
+        ensures { is_err result ≡ self.now.failed }
+    {
+        if self.failed { Err(Failed) } else { Ok(()) }
+    }
+
+    fn failed(&self) -> bool
         ensures { result ≡ self.now.failed }
     {
         self.failed
@@ -63,15 +70,48 @@ impl<'n> Printer<'n> {
         self.count
     }
 
+    fn held(&self) -> &[u8]
+        ensures { result.now ≡ self.now.held }
+    {
+        &self.piece.bytes[..self.piece.len]
+    }
+
+    // Holds nothing any more.
+    fn clear(&mut self, failed: bool)
+        ensures { self.new ≡ record self.old { held = []; failed = failed } }
+    {
+        self.piece.len = 0;
+        self.failed = failed;
+    }
+
+    fn lose<O: Sink>(&mut self, sink: &mut O)
+        requires { self.old.failed ≡ true }
+        ensures appends { Appends O.taken O.faults (self.old, sink.old) (self.new, sink.new) [] }
+        ensures held { self.new.held ≡ [] }
+    {
+        let _ = sink;
+        self.clear(true);
+    }
+
+    fn write_held<O: Sink>(&mut self, sink: &mut O)
+        requires { self.old.failed ≡ false }
+        ensures appends { Appends O.taken O.faults (self.old, sink.old) (self.new, sink.new) [] }
+        ensures held { self.new.held ≡ [] }
+    {
+        let written = write_whole(sink, self.held());
+        self.clear(written.is_err());
+    }
+
     /// Gives the sink what is held.
     pub(crate) fn flush<O: Sink>(&mut self, sink: &mut O)
         ensures appends { Appends O.taken O.faults (self.old, sink.old) (self.new, sink.new) [] }
         ensures held { self.new.held ≡ [] }
     {
-        if !self.failed {
-            self.failed = write_whole(sink, &self.piece.bytes[..self.piece.len]).is_err();
+        if self.failed() {
+            self.lose(sink);
+        } else {
+            self.write_held(sink);
         }
-        self.piece.len = 0;
     }
 
     fn byte<O: Sink>(&mut self, sink: &mut O, byte: u8)

@@ -91,10 +91,18 @@ impl<'n> Printer<'n> {
         ensures { Prints O.taken O.faults (self.old, sink.old) (self.new, sink.new)
             (form.separated_params params.now) }
     {
-        if let [first, rest @ ..] = params {
-            self.param(sink, *first);
-            self.params_after_commas(sink, rest);
+        match params {
+            [] => {}
+            [first, rest @ ..] => self.param_and_others(sink, *first, rest),
         }
+    }
+
+    fn param_and_others<O: Sink>(&mut self, sink: &mut O, first: Param, rest: &[Param])
+        ensures { Prints O.taken O.faults (self.old, sink.old) (self.new, sink.new)
+            (form.param first ⨾ form.params_after_commas rest.now) }
+    {
+        self.param(sink, first);
+        self.params_after_commas(sink, rest);
     }
 
     fn params<O: Sink>(&mut self, sink: &mut O, params: &[Param])
@@ -164,11 +172,20 @@ impl<'n> Printer<'n> {
         ensures { Prints O.taken O.faults (self.old, sink.old) (self.new, sink.new)
             (form.inits (map init_tree inits.now)) }
     {
-        if let [first, rest @ ..] = inits {
-            self.spaced(sink, Sign::Colon);
-            self.init(sink, first);
-            self.inits_after_commas(sink, rest);
+        match inits {
+            [] => {}
+            [first, rest @ ..] => self.init_and_others(sink, first, rest),
         }
+    }
+
+    fn init_and_others<O: Sink>(&mut self, sink: &mut O, first: &Init, rest: &[Init])
+        ensures { Prints O.taken O.faults (self.old, sink.old) (self.new, sink.new)
+            (base.spaced sg.Colon ⨾ form.init (init_tree first.now)
+            ⨾ form.inits_after_commas (map init_tree rest.now)) }
+    {
+        self.spaced(sink, Sign::Colon);
+        self.init(sink, first);
+        self.inits_after_commas(sink, rest);
     }
 
     fn ctor<O: Sink>(&mut self, sink: &mut O, level: u32, ctor: &Ctor)

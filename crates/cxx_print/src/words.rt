@@ -43,7 +43,7 @@ impl<'n> Printer<'n> {
     pub(crate) fn pragma<O: Sink>(&mut self, sink: &mut O)
         ensures { Prints O.taken O.faults (self.old, sink.old) (self.new, sink.new) (one (word spelled.pragma)) }
     {
-        self.put(sink, b"#pragma once".as_slice());
+        self.put(sink, b"#pragma once");
     }
 
     /// A name by its number; nothing, where no name has it.
@@ -69,10 +69,10 @@ impl<'n> Printer<'n> {
         ensures { Appends O.taken O.faults (self.old, sink.old) (self.new, sink.new) (texts.escaped byte) }
     {
         match byte {
-            b'\n' => self.put(sink, b"\\n".as_slice()),
-            b'\t' => self.put(sink, b"\\t".as_slice()),
-            b'\\' => self.put(sink, b"\\\\".as_slice()),
-            b'"' => self.put(sink, b"\\\"".as_slice()),
+            b'\n' => self.put(sink, b"\\n"),
+            b'\t' => self.put(sink, b"\\t"),
+            b'\\' => self.put(sink, b"\\\\"),
+            b'"' => self.put(sink, b"\\\""),
             _ => self.put(sink, &[byte]),
         }
     }
@@ -89,27 +89,27 @@ impl<'n> Printer<'n> {
     pub(crate) fn string<O: Sink>(&mut self, sink: &mut O, string: &Quoted)
         ensures { Prints O.taken O.faults (self.old, sink.old) (self.new, sink.new) (form.string string.now) }
     {
-        self.put(sink, b"\"".as_slice());
+        self.put(sink, b"\"");
         self.characters(sink, string.bytes.bytes());
-        self.put(sink, b"\"".as_slice());
+        self.put(sink, b"\"");
     }
 
     pub(crate) fn gap<O: Sink>(&mut self, sink: &mut O)
         ensures { Prints O.taken O.faults (self.old, sink.old) (self.new, sink.new) form.gap }
     {
-        self.put(sink, b" ".as_slice());
+        self.put(sink, b" ");
     }
 
     fn margin<O: Sink>(&mut self, sink: &mut O)
         ensures { Prints O.taken O.faults (self.old, sink.old) (self.new, sink.new) (one margin) }
     {
-        self.put(sink, b"    ".as_slice());
+        self.put(sink, b"    ");
     }
 
     pub(crate) fn newline<O: Sink>(&mut self, sink: &mut O)
         ensures { Prints O.taken O.faults (self.old, sink.old) (self.new, sink.new) (one newline) }
     {
-        self.put(sink, b"\n".as_slice());
+        self.put(sink, b"\n");
     }
 
     pub(crate) fn indented<O: Sink>(&mut self, sink: &mut O, level: u32)

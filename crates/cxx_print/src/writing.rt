@@ -20,10 +20,7 @@ pub fn print<O: Sink>(names: &Names, program: &Program, sink: &mut O) -> Result<
     let mut printer = Printer::new(names);
     printer.program(sink, program);
     printer.flush(sink);
-    if printer.failed() {
-        return Err(Failed);
-    }
-    Ok(())
+    printer.outcome()
 }
 
 /// The canonical text of a program.
