@@ -1,5 +1,5 @@
 -- What printing adds to a text.
-use Rattle.std.proofs.Common.{◌≡◌, ℕ, zero, suc, ◌+◌, ◌-◌, ◌≤◌, ◌^◌, min, Bool, true, false, List, [], ◌∷◌, ◌++◌, length, get_or, take, drop, ◌<◌, sub-one, Option, None, Some, Result, Ok, Err, is_err, refl, sym, ap, subst, ◌∙◌, append_assoc, length-append, length-drop, arith}
+use Rattle.std.proofs.Common.{◌≡◌, ℕ, zero, suc, ◌+◌, ◌-◌, ◌≤◌, ◌^◌, min, Bool, true, false, List, [], ◌∷◌, ◌++◌, length, get_or, take, drop, ◌<◌, sub-one, Option, None, Some, Result, Ok, Err, is_err, unwrap_or, refl, sym, ap, subst, ◌∙◌, append_assoc, length-append, length-drop, arith}
 use Rattle.std.proofs.lemmas.List.{take-append-le, drop-append-le, append-nil, take-append-drop, take_all, drop_all, drop_more}
 use Rattle.std.proofs.Math.Seq.{take-add}
 use Rattle.agxx_base.specs.Causes.{Rose}
@@ -140,6 +140,24 @@ module _ {S : Type 0} {taken : S → Option (List ℕ)} {faults : S → ℕ} whe
   prints-done {a = a} D xs i past empty before =
       before a (subst (λ d. Prints taken faults a a d) (sym (ap D (drop_all i xs past) ∙ empty)) prints-nothing)
 
+  -- the same of a loop over parts that are copied
+  pub prints-turn-copied : {X : Type 0} {s a b : State × S} {all : Document} (D : List X → Document) (F : X → Document) (xs : List X) (i : ℕ) (d : X) → i < length xs → ((x : X) (ys : List X) → D (x ∷ ys) ≡ F x ⨾ D ys) → ((u : State × S) → Prints taken faults a u (D (drop i xs)) → Prints taken faults s u all) → Prints taken faults a b (F (get_or xs i d)) → (u : State × S) → Prints taken faults b u (D (drop (i + 1) xs)) → Prints taken faults s u all
+  prints-turn-copied {a = a} D F xs i d inside each before step u h =
+      before u (subst (λ doc. Prints taken faults a u doc) (sym (ap D (drop_more xs i d inside) ∙ each (get_or xs i d) (drop (i + 1) xs))) (prints-both step h))
+
+  -- a list that isn't empty
+  pub prints-some : {X : Type 0} {a b : State × S} (D : List X → Document) (E : X → List X → Document) (d : X) (xs : List X) → 1 ≤ length xs → ((x : X) (ys : List X) → D (x ∷ ys) ≡ E x ys) → Prints taken faults a b (E (get_or xs 0 d) (drop 1 xs)) → Prints taken faults a b (D xs)
+  prints-some D E d [] some each h = absurd (omega (arith, some))
+  prints-some {a = a} {b = b} D E d (x ∷ ys) some each h = subst (λ doc. Prints taken faults a b doc) (sym (each x ys)) h
+
+  pub prints-some-owned : {X : Type 0} {a b : State × S} (D : List X → Document) (E : X → List X → Document) (xs : List X) (x : X) → 1 ≤ length xs → x ≡ get_or xs 0 x → ((x : X) (ys : List X) → D (x ∷ ys) ≡ E x ys) → Prints taken faults a b (E x (drop 1 xs)) → Prints taken faults a b (D xs)
+  prints-some-owned {a = a} {b = b} D E xs x some at each h =
+      prints-some D E x xs some each (subst (λ y. Prints taken faults a b (E y (drop 1 xs))) at h)
+
+  pub prints-same : {X : Type 0} {a b : State × S} (D E : List X → Document) (xs : List X) → 1 ≤ length xs → ((x : X) (ys : List X) → D (x ∷ ys) ≡ E (x ∷ ys)) → Prints taken faults a b (E xs) → Prints taken faults a b (D xs)
+  prints-same D E [] some each h = absurd (omega (arith, some))
+  prints-same {a = a} {b = b} D E (x ∷ ys) some each h = subst (λ doc. Prints taken faults a b doc) (sym (each x ys)) h
+
   -- a loop that prints the margin of one level after another
   pub margins-turn : {s a b : State × S} {all : Document} (n : ℕ) → 0 < n → ((u : State × S) → Prints taken faults a u (indented n) → Prints taken faults s u all) → Prints taken faults a b (one margin) → (u : State × S) → Prints taken faults b u (indented (n - 1)) → Prints taken faults s u all
   margins-turn zero some before step u h = absurd (omega (arith, some))
@@ -202,5 +220,9 @@ module _ {S : Type 0} {taken : S → Option (List ℕ)} {faults : S → ℕ} whe
       let h : IsAt (taken o) (faults o) (text_of_parts names (parts_of d)) t (taken q) (faults q) =
           subst (λ text. IsAt (taken o) (faults o) text t (taken q) (faults q)) (append-nil (text_of_parts names (parts_of d))) (flushed.goes (taken o) (faults o) (text_of_parts names (parts_of d)) (at-end names o p s d printed)) in
       record { later = h.later; all = tt; prefix = (h.given, h.front, h.taken_is); failed = h.rose (sym failed) }
+
+-- what a sink in memory has taken, that was empty
+pub taken-all : (had got text : List ℕ) → had ≡ [] → Some got ≡ appended (Some had) text → got ≡ text
+taken-all had got text empty all = ap (λ taken. unwrap_or taken []) all ∙ ap (λ bytes. bytes ++ text) empty
 
 pub ruleset printing = (prints-nothing, appends-nothing)

@@ -6,6 +6,7 @@
 #![tactic(auto, using(crate::proofs::Printed::printing))]
 
 mod expr;
+mod laws;
 mod printer;
 mod program;
 mod simple;
@@ -15,4 +16,5 @@ mod texts;
 mod words;
 mod writing;
 
+pub use laws::examples_print;
 pub use writing::{print, text_len, to_text};

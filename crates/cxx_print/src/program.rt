@@ -93,7 +93,10 @@ impl<'n> Printer<'n> {
     {
         match params {
             [] => {}
-            [first, rest @ ..] => self.param_and_others(sink, *first, rest),
+            [first, rest @ ..] => {
+                self.param_and_others(sink, *first, rest);
+                return;
+            }
         }
     }
 
@@ -174,7 +177,10 @@ impl<'n> Printer<'n> {
     {
         match inits {
             [] => {}
-            [first, rest @ ..] => self.init_and_others(sink, first, rest),
+            [first, rest @ ..] => {
+                self.init_and_others(sink, first, rest);
+                return;
+            }
         }
     }
 
@@ -338,7 +344,10 @@ impl<'n> Printer<'n> {
     {
         match arguments {
             [] => {}
-            [_, ..] => self.arguments(sink, arguments),
+            [_, ..] => {
+                self.arguments(sink, arguments);
+                return;
+            }
         }
     }
 

@@ -196,7 +196,8 @@ fn blocks_and_branches(rt: HostRuntime) -> Result<(), Fail> {
         (b"if(a){}else{}".as_slice(), b"    if (a) {\n    } else {\n    }\n".as_slice()),
         (
             b"if(a){x=1;}else if(b){x=2;}else if(c){}else{x=3;}".as_slice(),
-            b"    if (a) {\n        x = 1;\n    } else if (b) {\n        x = 2;\n    } else if (c) {\n    } else {\n        x = 3;\n    }\n".as_slice(),
+            b"    if (a) {\n        x = 1;\n    } else if (b) {\n        \
+              x = 2;\n    } else if (c) {\n    } else {\n        x = 3;\n    }\n".as_slice(),
         ),
         (
             b"if(a){if(b){}else{}}".as_slice(),
@@ -280,11 +281,14 @@ fn declarations(rt: HostRuntime) -> Result<(), Fail> {
         (b"class C{};".as_slice(), b"class C {\n};\n".as_slice()),
         (
             b"struct S:public B{int m;private:C*p;protected:public:S(int a,int b):B(a),m(b){}~S(){}};".as_slice(),
-            b"struct S : public B {\n    int m;\nprivate:\n    C* p;\nprotected:\npublic:\n    S(int a, int b) : B(a), m(b) {\n    }\n    ~S() {\n    }\n};\n".as_slice(),
+            b"struct S : public B {\n    int m;\nprivate:\n    \
+              C* p;\nprotected:\npublic:\n    S(int a, int b) : B(a), m(b) {\n    \
+              }\n    ~S() {\n    }\n};\n".as_slice(),
         ),
         (
             b"class D{std::mutex l;D():x(){x=1;}int f(){return x;}};".as_slice(),
-            b"class D {\n    std::mutex l;\n    D() : x() {\n        x = 1;\n    }\n    int f() {\n        return x;\n    }\n};\n".as_slice(),
+            b"class D {\n    std::mutex l;\n    D() : x() {\n        \
+              x = 1;\n    }\n    int f() {\n        return x;\n    }\n};\n".as_slice(),
         ),
         (
             b"int x=-1;bool b=true;C*p=nullptr;uint64_t y=1ull;int n;".as_slice(),
@@ -345,7 +349,8 @@ const WOVEN: [&[u8]; 65] = [
     b"    uint32_t __gop_n_Cell;",
     b"    std::mutex __gop_l_Cell;",
     b"    void __gop_repair_Cell() {",
-    b"        uint32_t __gop_m_1 = (uint32_t(v) & __gop_c1_v) | (uint32_t(v) & __gop_c2_v) | (__gop_c1_v & __gop_c2_v);",
+    b"        uint32_t __gop_m_1 = (uint32_t(v) & __gop_c1_v) | \
+      (uint32_t(v) & __gop_c2_v) | (__gop_c1_v & __gop_c2_v);",
     b"        v = __gop_m_1;",
     b"        __gop_c1_v = __gop_m_1;",
     b"        __gop_c2_v = __gop_m_1;",

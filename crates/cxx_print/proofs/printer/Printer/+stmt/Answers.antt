@@ -10,7 +10,7 @@ stmt_line-returns g t c =
 
 pub block-returns : goal.block-returns
 block-returns g t c =
-    prints-both c.sign.ensures (prints-both c.newline.ensures (prints-both c.stmts.ensures (prints-both c.indented.ensures c.sign-2.ensures)))
+    prints-both c.sign.ensures (prints-both c.newline.ensures (prints-both (rw (c.one_deeper.ensures, c.as_slice.ensures) at c.stmts.ensures) (prints-both c.indented.ensures c.sign-2.ensures)))
 
 pub branch-returns : goal.branch-returns
 branch-returns g t c =

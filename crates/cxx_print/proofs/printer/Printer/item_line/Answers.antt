@@ -3,4 +3,4 @@ use Rattle.cxx_print.proofs.printer.Printer.item_line.Goals as goal
 
 pub returns : goal.returns
 returns g c =
-    prints-both c.indented.ensures (prints-both c.item.ensures c.newline.ensures)
+    prints-both (rw c.item_level.ensures at c.indented.ensures) (prints-both c.item.ensures c.newline.ensures)

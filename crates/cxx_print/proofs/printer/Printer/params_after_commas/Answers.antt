@@ -1,6 +1,8 @@
 use Rattle.std.proofs.Common.{refl}
 use Rattle.cxx_print.specs.Programs as form
-use Rattle.cxx_print.proofs.Printed.{prints-turn, prints-done}
+use Rattle.cxx_print.specs.Document.{◌⨾◌, line}
+use Rattle.cxx_print.specs.Expressions.{comma}
+use Rattle.cxx_print.proofs.Printed.{prints-turn, prints-turn-copied, prints-done}
 use Rattle.cxx_print.proofs.printer.Printer.params_after_commas.Goals as goal
 
 pub loop-param-init : goal.loop-param-init
@@ -8,7 +10,7 @@ loop-param-init g c = λ u h. h
 
 pub loop-param-preserved : goal.loop-param-preserved
 loop-param-preserved g c =
-    prints-turn (form.params_after_commas) c.args.params.now c.loop-param.param-index c.param-item.result c.loop-param-test.true c.param-item.is (λ ys. refl) c.loop-param.invariant c.param_after_comma.ensures
+    prints-turn-copied (form.params_after_commas) (λ q. comma ⨾ form.param q) c.args.params.now c.loop-param.param-index _ c.loop-param-test.true (λ x ys. refl) c.loop-param.invariant c.param_after_comma.ensures
 
 pub returns : goal.returns
 returns g c =

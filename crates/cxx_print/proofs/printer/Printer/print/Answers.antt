@@ -3,4 +3,4 @@ use Rattle.cxx_print.proofs.printer.Printer.print.Goals as goal
 
 pub returns : goal.returns
 returns g c =
-    prints-both c.std_name.ensures c.operands.ensures
+    prints-both c.std_name.ensures (rw c.as_slice.ensures at c.operands.ensures)

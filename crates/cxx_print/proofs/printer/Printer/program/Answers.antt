@@ -3,4 +3,4 @@ use Rattle.cxx_print.proofs.printer.Printer.program.Goals as goal
 
 pub returns : goal.returns
 returns g c =
-    prints-both c.directives.ensures c.decls.ensures
+    prints-both (rw c.as_slice.ensures at c.directives.ensures) (rw c.as_slice-2.ensures at c.decls.ensures)
