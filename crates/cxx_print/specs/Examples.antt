@@ -2,7 +2,6 @@
 use Rattle.std.specs.Prelude.{ℕ, ◌≡◌, false, List, [], ◌∷◌, ◌++◌, Some, None, codes}
 use Rattle.agxx_base.specs.declared.ids.NameId.{NameId}
 use Rattle.agxx_base.specs.declared.place.Place.{Place}
-use Rattle.agxx_base.specs.declared.kind.NumKind.TheVariants as num
 use Rattle.agxx_base.specs.declared.vocabulary.Header.TheVariants as header
 use Rattle.cxx_tree.specs.declared.node.Node.{Node}
 use Rattle.cxx_tree.specs.declared.node.Placed.{Placed}
@@ -47,12 +46,6 @@ TwoSigns =
     (text (expr (e.unary node un.Negate (e.unary node un.Negate a))) ≡ codes "- -a")
     × (text (expr (e.unary node un.Not (e.unary node un.Not a))) ≡ codes "!!a")
 
--- a number of 32 bits without a sign, and one of 64 bits with a sign
-abbrev pub Numbers : Type 0
-Numbers =
-    (text (expr (e.lit node (record { bits = 2147483648; kind = num.U32 }))) ≡ codes "2147483648u")
-    × (text (expr (e.lit node (record { bits = 2147483648; kind = num.I64 }))) ≡ codes "2147483648ll")
-
 -- a `for` without parts in a line of its own
 abbrev pub EmptyFor : Type 0
 EmptyFor =
@@ -63,7 +56,3 @@ abbrev pub EmptyClass : Type 0
 EmptyClass =
     text_of names (record { at = place; directives = directive_of.Include header.Mutex ∷ []; decls = p.class (record { at = place; word = class_word_of.Class; name = named 1; base = None; items = [] }) ∷ [] })
     ≡ codes "#include <mutex>" ++ 10 ∷ (codes "class C {" ++ 10 ∷ (codes "};" ++ 10 ∷ []))
-
--- the examples have the texts that are written out
-abbrev pub ExamplesPrint : Type 0
-ExamplesPrint = TwoSigns × Numbers × EmptyFor × EmptyClass

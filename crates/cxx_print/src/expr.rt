@@ -3,6 +3,7 @@
 ghost use Rattle.std.specs.Prelude.{◌≡◌};
 ghost use Rattle.cxx_print.specs.Document.{◌⨾◌};
 ghost use Rattle.cxx_print.specs.Expressions as form;
+ghost use Rattle.cxx_print.specs.Listed.{listed, listed_part};
 ghost use Rattle.cxx_print.specs.Printing.{Prints};
 ghost use Rattle.cxx_tree.specs.ExprTree.{expr_tree, exprs_tree, call_tree};
 ghost use Rattle.cxx_tree.specs.Spelling.{binary_sign, unary_sign};
@@ -319,22 +320,37 @@ impl<'n> Printer<'n> {
         ensures { Prints O.taken O.faults (self.old, sink.old) (self.new, sink.new)
             (form.separated (exprs_tree exprs.now)) }
     {
-        match exprs {
-            [] => {}
-            [first, rest @ ..] => {
-                self.expr(sink, first);
-                self.after_commas(sink, rest);
-                return;
-            }
-        }
+        self.listed(sink, exprs, true);
     }
 
-    #[cycle(expr)]
     pub(crate) fn after_commas<O: Sink>(&mut self, sink: &mut O, exprs: &[Expr])
         ensures { Prints O.taken O.faults (self.old, sink.old) (self.new, sink.new)
             (form.after_commas (exprs_tree exprs.now)) }
     {
+        self.listed(sink, exprs, false);
+    }
+
+    // Several expressions, the first without a comma before it where that is said.
+    #[cycle(expr)]
+    fn listed<O: Sink>(&mut self, sink: &mut O, exprs: &[Expr], is_first: bool)
+        ensures { Prints O.taken O.faults (self.old, sink.old) (self.new, sink.new)
+            (listed is_first (exprs_tree exprs.now)) }
+    {
+        let mut is_first = is_first;
         for expr in exprs {
+            self.listed_part(sink, expr, is_first);
+            is_first = false;
+        }
+    }
+
+    #[cycle(expr)]
+    fn listed_part<O: Sink>(&mut self, sink: &mut O, expr: &Expr, is_first: bool)
+        ensures { Prints O.taken O.faults (self.old, sink.old) (self.new, sink.new)
+            (listed_part is_first (form.expr (expr_tree expr.now))) }
+    {
+        if is_first {
+            self.expr(sink, expr);
+        } else {
             self.after_comma(sink, expr);
         }
     }

@@ -96,21 +96,21 @@ impl<'n> Printer<'n> {
     }
 
     #[cycle(stmt)]
-    fn else_if<O: Sink>(&mut self, sink: &mut O, level: u32, branch: &If)
+    fn else_if<O: Sink>(&mut self, sink: &mut O, level: u32, next: &If)
         ensures { Prints O.taken O.faults (self.old, sink.old) (self.new, sink.new)
-            (form.otherwise ⨾ form.branch level (if_tree branch.now)) }
+            (form.otherwise ⨾ form.branch level (if_tree next.now)) }
     {
         self.otherwise(sink);
-        self.branch(sink, level, branch);
+        self.branch(sink, level, next);
     }
 
     #[cycle(stmt)]
-    fn else_block<O: Sink>(&mut self, sink: &mut O, level: u32, block: &Block)
+    fn else_block<O: Sink>(&mut self, sink: &mut O, level: u32, body: &Block)
         ensures { Prints O.taken O.faults (self.old, sink.old) (self.new, sink.new)
-            (form.otherwise ⨾ form.block level (block_tree block.now)) }
+            (form.otherwise ⨾ form.block level (block_tree body.now)) }
     {
         self.otherwise(sink);
-        self.block(sink, level, block);
+        self.block(sink, level, body);
     }
 
     #[cycle(stmt)]

@@ -1,8 +1,11 @@
-use Rattle.std.proofs.Common.{refl}
-use Rattle.cxx_print.specs.Expressions as form
+use Rattle.std.proofs.Common.{false, ap, ◌∙◌}
 use Rattle.cxx_tree.specs.ExprTree.{expr_tree, exprs_tree}
-use Rattle.cxx_print.specs.Document.{◌⨾◌}
-use Rattle.cxx_print.proofs.Printed.{prints-both, prints-turn, prints-done, prints-some-owned}
+use Rattle.cxx_print.specs.Listed.{listed}
+use Rattle.cxx_print.specs.Expressions as form
+use Rattle.cxx_print.proofs.Firsts.{prints-next, prints-view}
+use Rattle.cxx_print.proofs.Views.{binary-view, call-view, listed-more, listed-none}
+
+use Rattle.cxx_print.proofs.Printed.{prints-both, prints-done}
 use Rattle.cxx_print.proofs.printer.Printer.+expr.Goals as goal
 
 pub unary-returns : goal.unary-returns
@@ -35,23 +38,20 @@ after_comma-returns g t c =
 
 pub call-returns : goal.call-returns
 call-returns g t c =
-    prints-both c.callee.ensures (rw c.as_slice.ensures at c.arguments.ensures)
+    prints-view form.call _ _ (call-view c.args.call.now) (prints-both c.callee.ensures (rw c.as_slice.ensures at c.arguments.ensures))
 
 pub expr-returns-in-Binary : goal.expr-returns-in-Binary
 expr-returns-in-Binary g t c =
-    prints-both c.expr.ensures c.sign_and_right.ensures
+    prints-view form.expr _ _ (ap expr_tree c.in-Binary.is ∙ binary-view _ _ _ _) (prints-both (rw c.get-in-Binary.ensures at c.expr.ensures) (rw c.get-in-Binary-2.ensures at c.sign_and_right.ensures))
 
-pub after_commas-loop-expr-init : goal.after_commas-loop-expr-init
-after_commas-loop-expr-init g t c = λ u h. h
 
-pub after_commas-loop-expr-preserved : goal.after_commas-loop-expr-preserved
-after_commas-loop-expr-preserved g t c =
-    prints-turn (λ es. form.after_commas (exprs_tree es)) c.args.exprs.now c.loop-expr.expr-index c.expr-item.result c.loop-expr-test.true c.expr-item.is (λ ys. refl) c.loop-expr.invariant c.after_comma.ensures
+pub listed-loop-expr-init : goal.listed-loop-expr-init
+listed-loop-expr-init g t c = λ u h. h
 
-pub after_commas-returns : goal.after_commas-returns
-after_commas-returns g t c =
-    prints-done (λ es. form.after_commas (exprs_tree es)) c.args.exprs.now c.loop-expr.expr-index c.loop-expr-test.false refl c.loop-expr.invariant
+pub listed-loop-expr-preserved : goal.listed-loop-expr-preserved
+listed-loop-expr-preserved g t c =
+    prints-next (λ es. listed c.loop-expr.is_first (exprs_tree es)) (λ es. listed false (exprs_tree es)) c.args.exprs.now c.loop-expr.expr-index c.expr-item.result c.loop-expr-test.true c.expr-item.is (λ ys. listed-more c.loop-expr.is_first c.expr-item.result ys) c.loop-expr.invariant c.listed_part.ensures
 
-pub separated-returns-in-len1-up : goal.separated-returns-in-len1-up
-separated-returns-in-len1-up g t c =
-    prints-some-owned (λ es. form.separated (exprs_tree es)) (λ e es. form.expr (expr_tree e) ⨾ form.after_commas (exprs_tree es)) c.args.exprs.now c.first-item.result c.in-len1-up.len_at_least c.first-item.is (λ x ys. refl) (prints-both c.expr.ensures c.after_commas.ensures)
+pub listed-returns : goal.listed-returns
+listed-returns g t c =
+    prints-done (λ es. listed c.loop-expr.is_first (exprs_tree es)) c.args.exprs.now c.loop-expr.expr-index c.loop-expr-test.false (listed-none c.loop-expr.is_first) c.loop-expr.invariant
