@@ -20,7 +20,7 @@ branch-returns g t c =
 
 pub else_if-returns : goal.else_if-returns
 else_if-returns g t c =
-    prints-both c.otherwise.ensures c.branch.ensures
+    prints-both c.otherwise.ensures c.branch-self.ensures
 
 pub else_block-returns : goal.else_block-returns
 else_block-returns g t c =
