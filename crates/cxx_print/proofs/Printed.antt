@@ -1,5 +1,5 @@
 -- What printing adds to a text.
-use Rattle.std.proofs.Common.{◌≡◌, ℕ, zero, suc, ◌+◌, ◌-◌, ◌≤◌, ◌^◌, min, Bool, true, false, List, [], ◌∷◌, ◌++◌, length, get_or, take, drop, ◌<◌, sub-one, Option, None, Some, Result, Ok, Err, is_err, unwrap_or, refl, sym, ap, subst, ◌∙◌, append_assoc, length-append, length-drop, arith}
+use Rattle.std.proofs.Common.{◌≡◌, ℕ, zero, suc, ◌+◌, ◌-◌, ◌≤◌, ◌^◌, min, true, false, List, [], ◌∷◌, ◌++◌, length, get_or, take, drop, ◌<◌, sub-one, Option, None, Some, Result, Ok, Err, is_err, unwrap_or, refl, sym, ap, subst, ◌∙◌, append_assoc, length-append, length-drop, arith}
 use Rattle.std.proofs.lemmas.List.{take-append-le, drop-append-le, append-nil, take-append-drop, take_all, drop_all, drop_more}
 use Rattle.std.proofs.Math.Seq.{take-add}
 use Rattle.agxx_base.specs.Causes.{Rose}
@@ -70,6 +70,7 @@ at-written began taken now first faults later text bytes s (Err e) sound same w 
   where
     differ : true ≡ false → ⊥
     differ e = cc
+
     rose : (first faults later : ℕ) → first ≤ faults → Rose faults later → Rose first later
     rose first faults later a b = omega arith
 
@@ -208,7 +209,7 @@ module _ {S : Type 0} {taken : S → Option (List ℕ)} {faults : S → ℕ} whe
   pub written : {T E : Type 0} (names : List (List ℕ)) (o p q : S) (s t : State) (d : Document) (r : Result T E) → Prints taken faults (begun names, o) (s, p) d → Appends taken faults (s, p) (t, q) [] → t.held ≡ [] → is_err r ≡ t.failed → WritesWhole (taken o) (taken q) (text_of_parts names (parts_of d)) (faults o) (faults q) r
   written names o p q s t d (Ok u) printed flushed none sound =
       let h : IsAt (taken o) (faults o) (text_of_parts names (parts_of d)) t (taken q) (faults q) =
-          subst (λ text. IsAt (taken o) (faults o) text t (taken q) (faults q)) (append-nil (text_of_parts names (parts_of d))) (flushed.goes (taken o) (faults o) (text_of_parts names (parts_of d)) (at-end names o p s d printed)) in
+      subst (λ text. IsAt (taken o) (faults o) text t (taken q) (faults q)) (append-nil (text_of_parts names (parts_of d))) (flushed.goes (taken o) (faults o) (text_of_parts names (parts_of d)) (at-end names o p s d printed)) in
       let over : drop h.given (text_of_parts names (parts_of d)) ≡ [] = sym (h.rest (sym sound)) ∙ none in
       record {
         later = h.later;
@@ -218,7 +219,7 @@ module _ {S : Type 0} {taken : S → Option (List ℕ)} {faults : S → ℕ} whe
       }
   written names o p q s t d (Err e) printed flushed none failed =
       let h : IsAt (taken o) (faults o) (text_of_parts names (parts_of d)) t (taken q) (faults q) =
-          subst (λ text. IsAt (taken o) (faults o) text t (taken q) (faults q)) (append-nil (text_of_parts names (parts_of d))) (flushed.goes (taken o) (faults o) (text_of_parts names (parts_of d)) (at-end names o p s d printed)) in
+      subst (λ text. IsAt (taken o) (faults o) text t (taken q) (faults q)) (append-nil (text_of_parts names (parts_of d))) (flushed.goes (taken o) (faults o) (text_of_parts names (parts_of d)) (at-end names o p s d printed)) in
       record { later = h.later; all = tt; prefix = (h.given, h.front, h.taken_is); failed = h.rose (sym failed) }
 
 -- what a sink in memory has taken, that was empty

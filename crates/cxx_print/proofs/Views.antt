@@ -16,7 +16,7 @@ use Rattle.cxx_tree.specs.declared.stmt.For.{For}
 use Rattle.cxx_tree.specs.declared.stmt.Else.TheFolds.{fold_out-Block, fold_out-If, fold_out-While, fold_out-For}
 use Rattle.cxx_tree.specs.ExprTree.{ExprTree, CallTree, calls, binary, expr_step, call_step, expr_tree, exprs_tree, call_tree}
 use Rattle.cxx_tree.specs.StmtTree.{braces, chooses, while, for, else_or_none, block_tree, stmts_tree, if_tree, else_tree, while_tree, for_tree, start_tree, simple_tree}
-use Rattle.cxx_print.specs.Document.{Document, nothing, ◌⨾◌}
+use Rattle.cxx_print.specs.Document.{nothing, ◌⨾◌}
 use Rattle.cxx_print.specs.Expressions as form
 use Rattle.cxx_print.specs.Listed.{listed, listed_part}
 

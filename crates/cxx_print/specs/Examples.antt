@@ -1,12 +1,11 @@
 -- Texts of a few trees, worked out by hand.
-use Rattle.std.specs.Prelude.{ℕ, ◌≡◌, false, List, [], ◌∷◌, ◌++◌, Some, None, codes}
+use Rattle.std.specs.Prelude.{ℕ, ◌≡◌, false, List, [], ◌∷◌, ◌++◌, None, codes}
 use Rattle.agxx_base.specs.declared.ids.NameId.{NameId}
 use Rattle.agxx_base.specs.declared.place.Place.{Place}
 use Rattle.agxx_base.specs.declared.vocabulary.Header.TheVariants as header
 use Rattle.cxx_tree.specs.declared.node.Node.{Node}
 use Rattle.cxx_tree.specs.declared.node.Placed.{Placed}
 use Rattle.cxx_tree.specs.declared.operator.UnOp.TheVariants as un
-use Rattle.cxx_tree.specs.declared.expr.Ref.{Ref}
 use Rattle.cxx_tree.specs.declared.expr.Left.TheVariants as left_of
 use Rattle.cxx_tree.specs.declared.program.ClassWord.TheVariants as class_word_of
 use Rattle.cxx_tree.specs.declared.program.Directive.TheVariants as directive_of

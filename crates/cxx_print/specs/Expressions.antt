@@ -1,5 +1,5 @@
 -- The canonical form of expressions, a line of the grammar each.
-use Rattle.std.specs.Prelude.{ℕ, Bool, true, false, if◌then◌else◌, List, [], ◌∷◌}
+use Rattle.std.specs.Prelude.{Bool, true, false}
 use Rattle.agxx_base.specs.declared.ids.NameId.{NameId}
 use Rattle.agxx_base.specs.declared.vocabulary.Keyword.{Keyword}
 use Rattle.agxx_base.specs.declared.vocabulary.Keyword.TheVariants as k

@@ -2,7 +2,7 @@
 use Rattle.std.specs.Prelude.{ℕ, ◌≡◌, ◌≤◌, ◌+◌, ◌-◌, ◌^◌, min, Bool, true, false, List, [], ◌∷◌, ◌++◌, length, take, drop, Option}
 use Rattle.agxx_base.specs.Causes.{Rose}
 use Rattle.agxx_base.specs.Sink.{appended}
-use Rattle.cxx_print.specs.Document.{Part, Document, nothing, one, ◌⨾◌}
+use Rattle.cxx_print.specs.Document.{Document, nothing, one, ◌⨾◌}
 use Rattle.cxx_print.specs.Texts.{part_text}
 
 -- the texts of the names, the bytes that the sink wasn't given yet, whether it failed, and how many bytes the text has so

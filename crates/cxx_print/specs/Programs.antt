@@ -1,6 +1,6 @@
 -- The canonical form of declarations and programs, a line of the grammar each, and the text of a program. Includes and
 -- declarations stand in the order that they have in the tree, which the normal form has chosen.
-use Rattle.std.specs.Prelude.{ℕ, Bool, true, false, List, [], ◌∷◌, Option, Some, None}
+use Rattle.std.specs.Prelude.{ℕ, true, false, List, [], ◌∷◌}
 use Rattle.agxx_base.specs.declared.ids.NameId.{NameId}
 use Rattle.agxx_base.specs.declared.vocabulary.Keyword.TheVariants as k
 use Rattle.agxx_base.specs.declared.vocabulary.Sign.TheVariants as sg
@@ -22,7 +22,7 @@ use Rattle.cxx_tree.specs.declared.program.Variable.{Variable}
 use Rattle.cxx_tree.specs.Words as w
 use Rattle.cxx_tree.specs.ExprTree as e
 use Rattle.cxx_tree.specs.ProgramTree as p
-use Rattle.cxx_print.specs.Document.{Part, Document, nothing, one, ◌⨾◌, word, newline, indented, line, parts_of}
+use Rattle.cxx_print.specs.Document.{Part, Document, nothing, one, ◌⨾◌, word, newline, line, parts_of}
 use Rattle.cxx_print.specs.Expressions.{keyword, sign, name, number, gap, in_parentheses, spaced, comma, ended, flag, std_name, typed, no_arguments, arguments}
 use Rattle.cxx_print.specs.Statements.{optional, block}
 use Rattle.cxx_print.specs.Texts.{text_of_parts}

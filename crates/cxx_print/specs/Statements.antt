@@ -10,7 +10,7 @@ use Rattle.cxx_tree.specs.Spelling.{assign_sign, bump_sign}
 use Rattle.cxx_tree.specs.ExprTree as e
 use Rattle.cxx_tree.specs.StmtTree as s
 use Rattle.cxx_print.specs.Document.{Document, nothing, one, ◌⨾◌, newline, deeper, indented, line}
-use Rattle.cxx_print.specs.Expressions.{keyword, sign, name, string, gap, in_parentheses, spaced, comma, ended, std_name, ref, left, typed, no_arguments, of_join_point, expr, separated, after_commas, call, arguments}
+use Rattle.cxx_print.specs.Expressions.{keyword, sign, name, string, gap, in_parentheses, spaced, ended, std_name, ref, left, typed, no_arguments, of_join_point, expr, after_commas, call}
 
 -- a part that may be missing
 abbrev pub optional : {A : Type 0} → (A → Document) → Option A → Document

@@ -10,7 +10,9 @@ ghost use Rattle.cxx_tree.specs.Spelling.{binary_sign, unary_sign};
 
 use crate::printer::Printer;
 use agxx_base::{Keyword, NameId, Sign, Sink, SpecialName};
-use cxx_tree::{BinOp, Base, Call, Callee, Expr, Left, Name, Placed, Ref, Selector, TypeName, UnOp};
+use cxx_tree::{
+    Base, BinOp, Call, Callee, Expr, Left, Name, Placed, Ref, Selector, TypeName, UnOp,
+};
 
 pub(crate) fn binary_text(op: BinOp) -> Sign
     ensures { result ≡ binary_sign op }

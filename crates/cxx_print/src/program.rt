@@ -14,8 +14,8 @@ ghost use Rattle.cxx_tree.specs.ProgramTree.{class_tree, object_tree, global_tre
 use crate::printer::Printer;
 use agxx_base::{Keyword, Sign, Sink, SpecialName};
 use cxx_tree::{
-    Access, Class, ClassName, ClassWord, Const, Ctor, Decl, Directive, Dtor, Expr, Function, Global,
-    Init, Item, Member, Name, Number, Object, Param, Placed, Program, Proto, Variable,
+    Access, Class, ClassName, ClassWord, Const, Ctor, Decl, Directive, Dtor, Expr, Function,
+    Global, Init, Item, Member, Name, Number, Object, Param, Placed, Program, Proto, Variable,
 };
 
 // A label stands at the column of its class.

@@ -36,7 +36,11 @@ fn assign_sign(op: Option<BinOp>) -> Sign
 fn bump_sign(adds: bool) -> Sign
     ensures { result ≡ spelled.bump_sign adds }
 {
-    if adds { Sign::PlusPlus } else { Sign::MinusMinus }
+    if adds {
+        Sign::PlusPlus
+    } else {
+        Sign::MinusMinus
+    }
 }
 
 impl<'n> Printer<'n> {
@@ -189,7 +193,12 @@ impl<'n> Printer<'n> {
     }
 
     /// A keyword, and the condition in its parentheses.
-    pub(crate) fn with_condition<O: Sink>(&mut self, sink: &mut O, keyword: Keyword, condition: &Expr)
+    pub(crate) fn with_condition<O: Sink>(
+        &mut self,
+        sink: &mut O,
+        keyword: Keyword,
+        condition: &Expr,
+    )
         ensures { Prints O.taken O.faults (self.old, sink.old) (self.new, sink.new)
             (form.with_condition keyword (expr_tree condition.now)) }
     {

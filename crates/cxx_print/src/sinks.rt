@@ -65,7 +65,11 @@ impl Sink for Growing {
         ensures cause { HasCause self.old.faults self.new.faults result }
         ensures writes { 0 ≤ 0 + 1 }
     {
-        if self.bytes.extend_from_slice(&piece.bytes[..piece.len]).is_err() {
+        if self
+            .bytes
+            .extend_from_slice(&piece.bytes[..piece.len])
+            .is_err()
+        {
             self.faults = self.faults.saturating_add(1);
             return Err(Failed);
         }

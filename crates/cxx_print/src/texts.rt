@@ -149,11 +149,7 @@ pub(crate) fn suffix(kind: NumKind) -> &'static [u8]
         NumKind::U32 => b"u".as_slice(),
         NumKind::I64 => b"ll".as_slice(),
         NumKind::U64 => b"ull".as_slice(),
-        NumKind::Bool
-        | NumKind::I8
-        | NumKind::U8
-        | NumKind::I16
-        | NumKind::U16
-        | NumKind::I32 => b"".as_slice(),
+        NumKind::Bool | NumKind::I8 | NumKind::U8 | NumKind::I16 | NumKind::U16 | NumKind::I32 =>
+            b"".as_slice(),
     }
 }

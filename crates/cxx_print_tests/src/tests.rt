@@ -64,11 +64,7 @@ fn is_statement(alloc: Global, source: &[u8], wanted: &[u8]) -> Result<bool, Fai
     is_printed(
         alloc,
         (b"void f(){".as_slice(), source, b"}".as_slice()),
-        (
-            b"void f() {\n".as_slice(),
-            wanted,
-            b"}\n".as_slice(),
-        ),
+        (b"void f() {\n".as_slice(), wanted, b"}\n".as_slice()),
     )
 }
 
@@ -97,7 +93,11 @@ fn signs_stay_apart(rt: HostRuntime) -> Result<(), Fail> {
         (b"!::f(&o)".as_slice(), b"!::f(&o)".as_slice()),
     ];
     for (source, wanted) in rows {
-        assert!(rt; is_expression(rt.alloc(), source, wanted)?, "{}", source.escape_ascii());
+        assert!(rt;
+            is_expression(rt.alloc(), source, wanted)?,
+            "{}",
+            source.escape_ascii()
+        );
     }
     Ok(())
 }
@@ -118,7 +118,11 @@ fn operators_have_blanks(rt: HostRuntime) -> Result<(), Fail> {
         (b"a/*b*/+// c\nd".as_slice(), b"a + d".as_slice()),
     ];
     for (source, wanted) in rows {
-        assert!(rt; is_expression(rt.alloc(), source, wanted)?, "{}", source.escape_ascii());
+        assert!(rt;
+            is_expression(rt.alloc(), source, wanted)?,
+            "{}",
+            source.escape_ascii()
+        );
     }
     Ok(())
 }
@@ -129,26 +133,42 @@ fn numbers_have_their_kind(rt: HostRuntime) -> Result<(), Fail> {
         (b"0".as_slice(), b"0".as_slice()),
         (b"2147483647".as_slice(), b"2147483647".as_slice()),
         (b"2147483648".as_slice(), b"2147483648ll".as_slice()),
-        (b"9223372036854775807".as_slice(), b"9223372036854775807ll".as_slice()),
+        (
+            b"9223372036854775807".as_slice(),
+            b"9223372036854775807ll".as_slice(),
+        ),
         (b"0U".as_slice(), b"0u".as_slice()),
         (b"4294967295u".as_slice(), b"4294967295u".as_slice()),
         (b"4294967296u".as_slice(), b"4294967296ull".as_slice()),
         (b"1LL".as_slice(), b"1ll".as_slice()),
         (b"7ULL".as_slice(), b"7ull".as_slice()),
-        (b"18446744073709551615ull".as_slice(), b"18446744073709551615ull".as_slice()),
+        (
+            b"18446744073709551615ull".as_slice(),
+            b"18446744073709551615ull".as_slice(),
+        ),
         (b"0x7fffffff".as_slice(), b"2147483647".as_slice()),
         (b"0x80000000".as_slice(), b"2147483648u".as_slice()),
         (b"0XFFu".as_slice(), b"255u".as_slice()),
         (b"0x100000000".as_slice(), b"4294967296ll".as_slice()),
-        (b"0x8000000000000000".as_slice(), b"9223372036854775808ull".as_slice()),
-        (b"0xffffffffffffffff".as_slice(), b"18446744073709551615ull".as_slice()),
+        (
+            b"0x8000000000000000".as_slice(),
+            b"9223372036854775808ull".as_slice(),
+        ),
+        (
+            b"0xffffffffffffffff".as_slice(),
+            b"18446744073709551615ull".as_slice(),
+        ),
         (b"true".as_slice(), b"true".as_slice()),
         (b"false".as_slice(), b"false".as_slice()),
         (b"nullptr".as_slice(), b"nullptr".as_slice()),
         (b"this".as_slice(), b"this".as_slice()),
     ];
     for (source, wanted) in rows {
-        assert!(rt; is_expression(rt.alloc(), source, wanted)?, "{}", source.escape_ascii());
+        assert!(rt;
+            is_expression(rt.alloc(), source, wanted)?,
+            "{}",
+            source.escape_ascii()
+        );
     }
     Ok(())
 }
@@ -179,7 +199,11 @@ fn names_and_calls(rt: HostRuntime) -> Result<(), Fail> {
         (b"cout<<endl".as_slice(), b"cout << endl".as_slice()),
     ];
     for (source, wanted) in rows {
-        assert!(rt; is_expression(rt.alloc(), source, wanted)?, "{}", source.escape_ascii());
+        assert!(rt;
+            is_expression(rt.alloc(), source, wanted)?,
+            "{}",
+            source.escape_ascii()
+        );
     }
     Ok(())
 }
@@ -193,31 +217,51 @@ fn blocks_and_branches(rt: HostRuntime) -> Result<(), Fail> {
             b"    {\n        {\n            x = 1;\n        }\n    }\n".as_slice(),
         ),
         (b"if(a){}".as_slice(), b"    if (a) {\n    }\n".as_slice()),
-        (b"if(a){}else{}".as_slice(), b"    if (a) {\n    } else {\n    }\n".as_slice()),
+        (
+            b"if(a){}else{}".as_slice(),
+            b"    if (a) {\n    } else {\n    }\n".as_slice(),
+        ),
         (
             b"if(a){x=1;}else if(b){x=2;}else if(c){}else{x=3;}".as_slice(),
             b"    if (a) {\n        x = 1;\n    } else if (b) {\n        \
-              x = 2;\n    } else if (c) {\n    } else {\n        x = 3;\n    }\n".as_slice(),
+              x = 2;\n    } else if (c) {\n    } else {\n        x = 3;\n    }\n"
+                .as_slice(),
         ),
         (
             b"if(a){if(b){}else{}}".as_slice(),
             b"    if (a) {\n        if (b) {\n        } else {\n        }\n    }\n".as_slice(),
         ),
-        (b"while(a){x++;}".as_slice(), b"    while (a) {\n        x++;\n    }\n".as_slice()),
-        (b"for(;;){}".as_slice(), b"    for (; ; ) {\n    }\n".as_slice()),
+        (
+            b"while(a){x++;}".as_slice(),
+            b"    while (a) {\n        x++;\n    }\n".as_slice(),
+        ),
+        (
+            b"for(;;){}".as_slice(),
+            b"    for (; ; ) {\n    }\n".as_slice(),
+        ),
         (
             b"for(int i=0;i<n;++i){}".as_slice(),
             b"    for (int i = 0; i < n; ++i) {\n    }\n".as_slice(),
         ),
-        (b"for(i=0;;i+=2){}".as_slice(), b"    for (i = 0; ; i += 2) {\n    }\n".as_slice()),
-        (b"for(;a;){}".as_slice(), b"    for (; a; ) {\n    }\n".as_slice()),
+        (
+            b"for(i=0;;i+=2){}".as_slice(),
+            b"    for (i = 0; ; i += 2) {\n    }\n".as_slice(),
+        ),
+        (
+            b"for(;a;){}".as_slice(),
+            b"    for (; a; ) {\n    }\n".as_slice(),
+        ),
         (
             b"for(;;f()){return;}".as_slice(),
             b"    for (; ; f()) {\n        return;\n    }\n".as_slice(),
         ),
     ];
     for (source, wanted) in rows {
-        assert!(rt; is_statement(rt.alloc(), source, wanted)?, "{}", source.escape_ascii());
+        assert!(rt;
+            is_statement(rt.alloc(), source, wanted)?,
+            "{}",
+            source.escape_ascii()
+        );
     }
     Ok(())
 }
@@ -229,9 +273,15 @@ fn simple_statements(rt: HostRuntime) -> Result<(), Fail> {
         (b"return -a;".as_slice(), b"    return -a;\n".as_slice()),
         (b"delete p;".as_slice(), b"    delete p;\n".as_slice()),
         (b"int x;".as_slice(), b"    int x;\n".as_slice()),
-        (b"C*p=nullptr;".as_slice(), b"    C* p = nullptr;\n".as_slice()),
+        (
+            b"C*p=nullptr;".as_slice(),
+            b"    C* p = nullptr;\n".as_slice(),
+        ),
         (b"C * p;".as_slice(), b"    C* p;\n".as_slice()),
-        (b"unsigned u=1u;".as_slice(), b"    unsigned u = 1u;\n".as_slice()),
+        (
+            b"unsigned u=1u;".as_slice(),
+            b"    unsigned u = 1u;\n".as_slice(),
+        ),
         (
             b"int32_t i;uint8_t b=2;".as_slice(),
             b"    int32_t i;\n    uint8_t b = 2;\n".as_slice(),
@@ -260,15 +310,25 @@ fn simple_statements(rt: HostRuntime) -> Result<(), Fail> {
             b"std::cout<<\"\\n\\t\\\\\\\"~ \"<<\"\";".as_slice(),
             b"    std::cout << \"\\n\\t\\\\\\\"~ \" << \"\";\n".as_slice(),
         ),
-        (b"std::thread t(w);".as_slice(), b"    std::thread t(w);\n".as_slice()),
+        (
+            b"std::thread t(w);".as_slice(),
+            b"    std::thread t(w);\n".as_slice(),
+        ),
         (
             b"std::thread t(::w,1,-x);".as_slice(),
             b"    std::thread t(::w, 1, -x);\n".as_slice(),
         ),
-        (b"std::abort();".as_slice(), b"    std::abort();\n".as_slice()),
+        (
+            b"std::abort();".as_slice(),
+            b"    std::abort();\n".as_slice(),
+        ),
     ];
     for (source, wanted) in rows {
-        assert!(rt; is_statement(rt.alloc(), source, wanted)?, "{}", source.escape_ascii());
+        assert!(rt;
+            is_statement(rt.alloc(), source, wanted)?,
+            "{}",
+            source.escape_ascii()
+        );
     }
     Ok(())
 }
@@ -277,18 +337,23 @@ fn simple_statements(rt: HostRuntime) -> Result<(), Fail> {
 fn declarations(rt: HostRuntime) -> Result<(), Fail> {
     let rows = [
         (b"".as_slice(), b"".as_slice()),
-        (b"class C;struct S;".as_slice(), b"class C;\nstruct S;\n".as_slice()),
+        (
+            b"class C;struct S;".as_slice(),
+            b"class C;\nstruct S;\n".as_slice(),
+        ),
         (b"class C{};".as_slice(), b"class C {\n};\n".as_slice()),
         (
             b"struct S:public B{int m;private:C*p;protected:public:S(int a,int b):B(a),m(b){}~S(){}};".as_slice(),
             b"struct S : public B {\n    int m;\nprivate:\n    \
               C* p;\nprotected:\npublic:\n    S(int a, int b) : B(a), m(b) {\n    \
-              }\n    ~S() {\n    }\n};\n".as_slice(),
+              }\n    ~S() {\n    }\n};\n"
+                .as_slice(),
         ),
         (
             b"class D{std::mutex l;D():x(){x=1;}int f(){return x;}};".as_slice(),
             b"class D {\n    std::mutex l;\n    D() : x() {\n        \
-              x = 1;\n    }\n    int f() {\n        return x;\n    }\n};\n".as_slice(),
+              x = 1;\n    }\n    int f() {\n        return x;\n    }\n};\n"
+                .as_slice(),
         ),
         (
             b"int x=-1;bool b=true;C*p=nullptr;uint64_t y=1ull;int n;".as_slice(),
@@ -306,10 +371,17 @@ fn declarations(rt: HostRuntime) -> Result<(), Fail> {
             b"# include  <thread>\n#include<cstdint>\n#pragma   once\nint x;".as_slice(),
             b"#include <thread>\n#include <cstdint>\n#pragma once\nint x;\n".as_slice(),
         ),
-        (b"int std;int mutex;".as_slice(), b"int std;\nint mutex;\n".as_slice()),
+        (
+            b"int std;int mutex;".as_slice(),
+            b"int std;\nint mutex;\n".as_slice(),
+        ),
     ];
     for (source, wanted) in rows {
-        assert!(rt; printed(rt.alloc(), source)?.bytes() == wanted, "{}", source.escape_ascii());
+        assert!(rt;
+            printed(rt.alloc(), source)?.bytes() == wanted,
+            "{}",
+            source.escape_ascii()
+        );
     }
     Ok(())
 }
@@ -433,7 +505,12 @@ fn nested(alloc: Global, depth: usize, before: &[u8], behind: &[u8]) -> Result<V
 #[test]
 fn deep_nesting(rt: HostRuntime) -> Result<(), Fail> {
     let source = nested(rt.alloc(), 99, b"void f(){x=".as_slice(), b";}".as_slice())?;
-    let wanted = nested(rt.alloc(), 99, b"void f() {\n    x = ".as_slice(), b";\n}\n".as_slice())?;
+    let wanted = nested(
+        rt.alloc(),
+        99,
+        b"void f() {\n    x = ".as_slice(),
+        b";\n}\n".as_slice(),
+    )?;
     assert!(rt; printed(rt.alloc(), source.as_slice())?.bytes() == wanted.as_slice());
     Ok(())
 }

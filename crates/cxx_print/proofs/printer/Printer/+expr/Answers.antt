@@ -4,7 +4,6 @@ use Rattle.cxx_print.specs.Listed.{listed}
 use Rattle.cxx_print.specs.Expressions as form
 use Rattle.cxx_print.proofs.Firsts.{prints-next, prints-view}
 use Rattle.cxx_print.proofs.Views.{binary-view, call-view, listed-more, listed-none}
-
 use Rattle.cxx_print.proofs.Printed.{prints-both, prints-done}
 use Rattle.cxx_print.proofs.printer.Printer.+expr.Goals as goal
 
@@ -43,7 +42,6 @@ call-returns g t c =
 pub expr-returns-in-Binary : goal.expr-returns-in-Binary
 expr-returns-in-Binary g t c =
     prints-view form.expr _ _ (ap expr_tree c.in-Binary.is ∙ binary-view _ _ _ _) (prints-both (rw c.get-in-Binary.ensures at c.expr.ensures) (rw c.get-in-Binary-2.ensures at c.sign_and_right.ensures))
-
 
 pub listed-loop-expr-init : goal.listed-loop-expr-init
 listed-loop-expr-init g t c = λ u h. h

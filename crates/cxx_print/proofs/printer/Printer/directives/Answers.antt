@@ -1,8 +1,7 @@
 use Rattle.std.proofs.Common.{refl}
 use Rattle.cxx_print.specs.Programs as form
-use Rattle.cxx_print.specs.Document.{◌⨾◌, line}
-use Rattle.cxx_print.specs.Expressions.{comma}
-use Rattle.cxx_print.proofs.Printed.{prints-turn, prints-turn-copied, prints-done}
+use Rattle.cxx_print.specs.Document.{line}
+use Rattle.cxx_print.proofs.Printed.{prints-turn-copied, prints-done}
 use Rattle.cxx_print.proofs.printer.Printer.directives.Goals as goal
 
 pub loop-directive-init : goal.loop-directive-init

@@ -1,7 +1,5 @@
 use Rattle.std.proofs.Common.{drop}
 use Rattle.cxx_print.specs.Programs as form
-use Rattle.cxx_print.specs.Document.{◌⨾◌, line}
-use Rattle.cxx_print.specs.Expressions.{comma}
 use Rattle.cxx_print.specs.Printing.{State, Prints}
 use Rattle.cxx_print.proofs.printer.Printer.directives.Given as goal
 

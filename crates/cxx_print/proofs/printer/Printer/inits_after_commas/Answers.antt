@@ -1,7 +1,7 @@
 use Rattle.std.proofs.Common.{refl, map}
 use Rattle.cxx_print.specs.Programs as form
 use Rattle.cxx_tree.specs.ProgramTree.{init_tree}
-use Rattle.cxx_print.proofs.Printed.{prints-turn, prints-turn-copied, prints-done}
+use Rattle.cxx_print.proofs.Printed.{prints-turn, prints-done}
 use Rattle.cxx_print.proofs.printer.Printer.inits_after_commas.Goals as goal
 
 pub loop-init-init : goal.loop-init-init

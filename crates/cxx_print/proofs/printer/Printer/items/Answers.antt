@@ -1,7 +1,7 @@
 use Rattle.std.proofs.Common.{refl, map}
 use Rattle.cxx_print.specs.Programs as form
 use Rattle.cxx_tree.specs.ProgramTree.{item_tree}
-use Rattle.cxx_print.proofs.Printed.{prints-turn, prints-turn-copied, prints-done}
+use Rattle.cxx_print.proofs.Printed.{prints-turn, prints-done}
 use Rattle.cxx_print.proofs.printer.Printer.items.Goals as goal
 
 pub loop-item-init : goal.loop-item-init

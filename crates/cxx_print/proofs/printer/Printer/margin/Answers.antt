@@ -1,6 +1,5 @@
 use Rattle.std.proofs.Common.{refl}
-use Rattle.cxx_tree.specs.Words as w
-use Rattle.cxx_print.specs.Document.{word, special, blank, margin, newline}
+use Rattle.cxx_print.specs.Document.{margin}
 use Rattle.cxx_print.proofs.Printed.{prints-one}
 use Rattle.cxx_print.proofs.printer.Printer.margin.Goals as goal
 

@@ -1,7 +1,7 @@
 use Rattle.std.proofs.Common.{refl, map}
 use Rattle.cxx_print.specs.Statements as form
 use Rattle.cxx_tree.specs.StmtTree.{printed_tree}
-use Rattle.cxx_print.proofs.Printed.{prints-turn, prints-turn-copied, prints-done}
+use Rattle.cxx_print.proofs.Printed.{prints-turn, prints-done}
 use Rattle.cxx_print.proofs.printer.Printer.operands.Goals as goal
 
 pub loop-operand-init : goal.loop-operand-init
