@@ -1,0 +1,6 @@
+use Rattle.cxx_print.proofs.Printed.{prints-both}
+use Rattle.cxx_print.proofs.printer.Printer.no_arguments.Goals as goal
+
+pub returns : goal.returns
+returns g c =
+    prints-both c.sign.ensures c.sign-2.ensures

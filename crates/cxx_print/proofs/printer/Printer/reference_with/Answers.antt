@@ -1,0 +1,6 @@
+use Rattle.cxx_print.proofs.Printed.{prints-both}
+use Rattle.cxx_print.proofs.printer.Printer.reference_with.Goals as goal
+
+pub returns : goal.returns
+returns g c =
+    prints-both c.reference.ensures c.sign.ensures

@@ -1,0 +1,6 @@
+use Rattle.cxx_print.proofs.Printed.{prints-both}
+use Rattle.cxx_print.proofs.printer.Printer.typed.Goals as goal
+
+pub returns : goal.returns
+returns g c =
+    prints-both c.type_name.ensures (prints-both c.gap.ensures c.name.ensures)

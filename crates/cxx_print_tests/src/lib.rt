@@ -1,0 +1,5 @@
+//! Tests of the text that `cxx_print` writes, on programs that are read from text.
+#![tactic(auto)]
+
+#[cfg(test)]
+mod tests;
