@@ -1,8 +1,7 @@
 -- A program in which nothing is declared twice has no class with two members of one name.
-use Rattle.std.proofs.Common.{◌≡◌, ℕ, zero, suc, ◌+◌, ◌<◌, ◌⊎◌, inl, inr, Bool, true, false, not, if◌then◌else◌, nat_eq, nat_lt, List, [], ◌∷◌, ◌++◌, length, Option, Some, None, is_some, slice_get, refl, sym, ap, subst, ◌∙◌, arith, length-append}
+use Rattle.std.proofs.Common.{◌≡◌, ℕ, zero, suc, ◌+◌, ◌<◌, ◌⊎◌, inl, inr, Bool, true, false, not, List, [], ◌∷◌, ◌++◌, length, Option, Some, None, slice_get, refl, sym, ap, subst, ◌∙◌, arith, length-append}
 use Rattle.std.proofs.lemmas.Option.{none-some, same_Some}
 use Rattle.std.proofs.lemmas.Bool.{lt-ltb}
-use Rattle.agxx_base.specs.declared.ids.ClassId.{ClassId}
 use Rattle.agxx_base.specs.declared.ids.NameId.{NameId}
 use Rattle.agxx_base.specs.declared.place.Place.{Place}
 use Rattle.cxx_tree.specs.declared.node.Placed.{Placed}
@@ -22,8 +21,7 @@ use Rattle.cxx_types.specs.Programs as programs
 use Rattle.cxx_rules.specs.Sites.{Site}
 use Rattle.cxx_rules.specs.Forms as form
 use Rattle.cxx_rules.specs.Forms.{Form}
-use Rattle.cxx_rules.specs.ProgramForms as forms
-use Rattle.cxx_rules.specs.ProgramForms.{forms_of_item, forms_of_items, forms_of_class, forms_of_decl, forms_of_decls, forms_of_program, in_class, top}
+use Rattle.cxx_rules.specs.ProgramForms.{forms_of_item, forms_of_items, forms_of_class, forms_of_decl, forms_of_decls, in_class, top}
 use Rattle.cxx_rules.specs.Unless.{unless, with_place, places_in}
 use Rattle.cxx_rules.specs.DeclaredTwice.{declared_twice_at, is_inherited}
 use Rattle.cxx_rules.specs.Rules.{declared_twice}
@@ -167,9 +165,10 @@ module _ (w : Site) (base : Option (Placed NameId)) (info : ClassInfo) where
       let rest = forms_of_items w base info (classes.next_seen (p.member m) seen) is in
       let mine = clear-left (forms_of_item w base info seen (p.member m)) rest e in
       let before : Bool = stands_before (named info.items m.name.item.0) seen.index in
-      let at = none-told (unless (not (either before (is_inherited w info.base m.name))) m.name.at) (places_in declared_twice_at (form.apart w m.name ∷ [])) mine in
-      (not-before before (is_inherited w info.base m.name) m.name.at at.0,
-      first-items is (classes.next_seen (p.member m) seen) (clear-right (forms_of_item w base info seen (p.member m)) rest e))
+      let at = none-told (unless (not (either before (is_inherited w info.base m.name))) m.name.at) (places_in declared_twice_at (form.apart w m.name ∷ [])) mine in (
+        not-before before (is_inherited w info.base m.name) m.name.at at.0,
+        first-items is (classes.next_seen (p.member m) seen) (clear-right (forms_of_item w base info seen (p.member m)) rest e),
+      )
 
 class-distinct : (w : Site) (found : Declared) (c : p.ClassTree) (o : Option ClassInfo) → o ≡ Some (class_items found c).info → IsClear (forms_of_class w c o) → IsDistinct (member_names c.items)
 class-distinct w found c None e clear = absurd (none-some (class_items found c).info e)
@@ -191,12 +190,12 @@ module _ (names : List (List ℕ)) (w : Site) where
   decls-distinct (x ∷ xs) found seen k e clear zero c at =
       let same : x ≡ p.class c = same_Some x (p.class c) at in
       let mine : IsClear (forms_of_decl w seen (p.class c)) =
-          subst (λ z. IsClear (forms_of_decl w seen z)) same (clear-left (forms_of_decl w seen x) (forms_of_decls w (programs.next_seen x seen) xs) clear) in
+      subst (λ z. IsClear (forms_of_decl w seen z)) same (clear-left (forms_of_decl w seen x) (forms_of_decls w (programs.next_seen x seen) xs) clear) in
       let listed : w.declared.classes ≡ found.classes ++ (class_items found c).info ∷ layouts.infos names (with_class found c) xs =
-          e ∙ ap (λ z. (with_decls names found (z ∷ xs)).classes) same ∙ layouts.classes-are names (p.class c ∷ xs) found in
+      e ∙ ap (λ z. (with_decls names found (z ∷ xs)).classes) same ∙ layouts.classes-are names (p.class c ∷ xs) found in
       let here : d.class_at w.declared (record { 0 = seen.classes }) ≡ Some (class_items found c).info =
-          ap (slice_get w.declared.classes) k ∙ ap (λ l. slice_get l (length found.classes)) listed
-          ∙ at-seam found.classes (class_items found c).info (layouts.infos names (with_class found c) xs) in
+      ap (slice_get w.declared.classes) k ∙ ap (λ l. slice_get l (length found.classes)) listed
+      ∙ at-seam found.classes (class_items found c).info (layouts.infos names (with_class found c) xs) in
       let inner : List Form = forms_of_class (in_class w seen) c (d.class_at w.declared (record { 0 = seen.classes })) in
       class-distinct (in_class w seen) found c (d.class_at w.declared (record { 0 = seen.classes })) here
       (none-told (declared_twice_at (form.decl_name w seen.index c.name)) (places_in declared_twice_at inner) mine).1
