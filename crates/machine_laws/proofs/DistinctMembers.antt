@@ -1,8 +1,7 @@
 -- A program in which nothing is declared twice has no class with two members of one name.
-use Rattle.std.proofs.Common.{◌≡◌, ℕ, zero, suc, ◌+◌, ◌<◌, ◌⊎◌, inl, inr, Bool, true, false, not, if◌then◌else◌, nat_eq, nat_lt, List, [], ◌∷◌, ◌++◌, length, Option, Some, None, is_some, slice_get, refl, sym, ap, subst, ◌∙◌, arith, length-append}
+use Rattle.std.proofs.Common.{◌≡◌, ℕ, zero, suc, ◌+◌, ◌<◌, ◌⊎◌, inl, inr, Bool, true, false, not, List, [], ◌∷◌, ◌++◌, length, Option, Some, None, slice_get, refl, sym, ap, subst, ◌∙◌, arith, length-append}
 use Rattle.std.proofs.lemmas.Option.{none-some, same_Some}
 use Rattle.std.proofs.lemmas.Bool.{lt-ltb}
-use Rattle.agxx_base.specs.declared.ids.ClassId.{ClassId}
 use Rattle.agxx_base.specs.declared.ids.NameId.{NameId}
 use Rattle.agxx_base.specs.declared.place.Place.{Place}
 use Rattle.cxx_tree.specs.declared.node.Placed.{Placed}
@@ -22,8 +21,7 @@ use Rattle.cxx_types.specs.Programs as programs
 use Rattle.cxx_rules.specs.Sites.{Site}
 use Rattle.cxx_rules.specs.Forms as form
 use Rattle.cxx_rules.specs.Forms.{Form}
-use Rattle.cxx_rules.specs.ProgramForms as forms
-use Rattle.cxx_rules.specs.ProgramForms.{forms_of_item, forms_of_items, forms_of_class, forms_of_decl, forms_of_decls, forms_of_program, in_class, top}
+use Rattle.cxx_rules.specs.ProgramForms.{forms_of_item, forms_of_items, forms_of_class, forms_of_decl, forms_of_decls, in_class, top}
 use Rattle.cxx_rules.specs.Unless.{unless, with_place, places_in}
 use Rattle.cxx_rules.specs.DeclaredTwice.{declared_twice_at, is_inherited}
 use Rattle.cxx_rules.specs.Rules.{declared_twice}

@@ -25,11 +25,10 @@ use Rattle.cxx_core.specs.ElaboratedProgram as k
 use Rattle.cxx_core.specs.ElaboratedProgram.{core_class, decls_classes, core_program}
 use Rattle.step_machine.specs.Setting.{Setting, class_at}
 use Rattle.machine_laws.specs.Locates.{IsDistinct}
-use Rattle.machine_laws.specs.Layouts.{HasDistinctMembers, member_names, word_of, words_by, words_in, part_by, part_in, setting_of, LayoutsAgree}
+use Rattle.machine_laws.specs.Layouts.{HasDistinctMembers, member_names, word_of, words_by, words_in, part_by, part_in, setting_of}
 use Rattle.machine_laws.proofs.Lists.{none-one-more}
 use Rattle.machine_laws.proofs.Bases.{base-at, has-bases}
-use Rattle.machine_laws.proofs.Along.{count-along, machine-words, stands-at}
-use Rattle.machine_laws.proofs.LaidOut.{declared_words, id, Aligned, layouts-are, parts-are, laid-out}
+use Rattle.machine_laws.proofs.LaidOut.{declared_words, id, Aligned}
 
 -- ---- the words of a class
 
