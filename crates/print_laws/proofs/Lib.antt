@@ -1,0 +1,4 @@
+pub mod Documents
+pub mod Expressions
+pub mod Statements
+pub mod Programs

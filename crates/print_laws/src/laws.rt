@@ -1,0 +1,9 @@
+//! Laws on definitions alone. Each function does nothing: it carries its law.
+
+ghost use Rattle.print_laws.specs.Spelled.{TextsAreSpelled};
+
+/// The words of a program's canonical text, blanks and ends of lines left out, are the tokens that the grammar spells it
+/// with, in their order, for every program.
+pub fn texts_are_spelled()
+    ensures { TextsAreSpelled }
+{}

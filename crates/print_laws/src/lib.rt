@@ -1,0 +1,8 @@
+//! Laws of the canonical text: its words are the tokens of the program. The crate has definitions and laws alone.
+//!
+//! Read `specs/Spelled`.
+#![tactic(auto)]
+
+mod laws;
+
+pub use laws::texts_are_spelled;
