@@ -542,9 +542,11 @@ fn a_sink_that_fails(rt: HostRuntime) -> Result<(), Fail> {
     let mut sink = MemSink::new(rt.alloc(), 20000)?;
     sink.fail_write(2)?;
     assert_eq!(rt; print(&names, &program, &mut sink), Err(Failed));
-    assert!(rt; sink.bytes() == &source.as_slice()[..4096]);
+    assert!(rt; source.as_slice().starts_with(sink.bytes()));
+    assert_eq!(rt; sink.bytes().len(), 4096);
     let mut small = MemSink::new(rt.alloc(), 5000)?;
     assert_eq!(rt; print(&names, &program, &mut small), Err(Failed));
-    assert!(rt; small.bytes() == &source.as_slice()[..5000]);
+    assert!(rt; source.as_slice().starts_with(small.bytes()));
+    assert_eq!(rt; small.bytes().len(), 5000);
     Ok(())
 }
