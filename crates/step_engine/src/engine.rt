@@ -3,12 +3,13 @@
 ghost use Rattle.std.specs.Prelude.{◌≡◌, ◌<◌, [], length, IfOk, OnOk, OnErr};
 ghost use Rattle.step_machine.specs.Machine.{next, after, kind_of, state_after};
 ghost use Rattle.step_machine.specs.Start.{start};
+ghost use Rattle.step_machine.specs.World.{class_at};
 ghost use Rattle.step_engine.specs.Effects.{turn_of};
 
 use crate::effect::Turn;
 use crate::start::{start_frame, start_world};
 use crate::turns::turn;
-use agxx_base::Memory;
+use agxx_base::{ClassId, Memory, ObjectId};
 use std::alloc::Global;
 use std::marker::Model;
 use step_frame::Thread;
@@ -163,6 +164,27 @@ impl<'p, H: Heap> Engine<'p, H> {
         ensures { result.now ≡ self.now.world.output }
     {
         self.world.output()
+    }
+
+    /// What the run goes by.
+    pub fn setting(&self) -> &'p Setting<'p>
+        ensures { result.now ≡ self.now.setting }
+    {
+        self.setting
+    }
+
+    /// The threads that were made, each at its number.
+    pub fn threads(&self) -> &[Thread<'p>]
+        ensures { result.now ≡ self.now.threads }
+    {
+        self.threads.as_slice()
+    }
+
+    /// The class of a live object.
+    pub fn class(&self, object: ObjectId) -> Option<ClassId>
+        ensures { result ≡ class_at self.now.world object.0 }
+    {
+        self.world.class(object)
     }
 
     /// The objects.

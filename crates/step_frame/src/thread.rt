@@ -1,6 +1,6 @@
 //! The frames of a thread.
 
-ghost use Rattle.std.specs.Prelude.{◌≡◌, ◌+◌, ◌<◌, [], ◌∷◌, Some, IfOk, OnOk, MatchOption};
+ghost use Rattle.std.specs.Prelude.{◌≡◌, ◌+◌, ◌<◌, [], ◌∷◌, reverse, Some, IfOk, OnOk, MatchOption};
 ghost use Rattle.step_machine.specs.Frame.{is_object, is_on, are_on, any_on, depth_of};
 ghost use Rattle.step_machine.specs.Turn.{handed, has_ended};
 ghost use Rattle.step_frame.specs.Threads.{IsTaken};
@@ -88,6 +88,13 @@ impl<'p> Thread<'p> {
                 Some(frame)
             }
         }
+    }
+
+    /// The frames, the one that runs last.
+    pub fn frames(&self) -> &[Frame<'p>]
+        ensures { reverse result.now ≡ self.now }
+    {
+        self.frames.as_slice()
     }
 
     /// How many frames count toward the depth.
