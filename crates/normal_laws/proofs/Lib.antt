@@ -1,2 +1,3 @@
+pub mod Blanked
 pub mod Same
 pub mod Kept
