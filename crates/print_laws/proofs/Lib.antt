@@ -6,4 +6,5 @@ pub mod Shapes
 pub mod ApartDocuments
 pub mod ApartExpressions
 pub mod ApartStatements
+pub mod ApartProgram
 pub mod ReadBack
