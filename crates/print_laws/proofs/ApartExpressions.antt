@@ -1,5 +1,5 @@
 -- The parts of expressions are read as what they are.
-use Rattle.std.proofs.Common.{◌≡◌, Bool, true, false, ℕ, ◌-◌, Option, Some, None, refl, arith}
+use Rattle.std.proofs.Common.{◌≡◌, Bool, true, false, ℕ, Option, Some, refl}
 use Rattle.agxx_base.specs.declared.ids.NameId.{NameId}
 use Rattle.agxx_base.specs.declared.vocabulary.Sign.{Sign}
 use Rattle.agxx_base.specs.declared.vocabulary.Sign.TheVariants as sg
@@ -206,8 +206,8 @@ module _ (grammar : Grammar) (no_advice : HasAdviceForms grammar → ⊥) where
     expr-apart depth level (e.left l) h next closes = left-apart depth l h next closes.0
     expr-apart depth level (e.unary n o operand) h next closes =
         unary-apart o (f.joins o operand) (f.expr operand) next
-          (λ joined. expr-behind (unary_sign o) (unary-opens o) operand (behind-unary-free o operand joined) next)
-          (expr-apart depth 0 operand h next closes)
+        (λ joined. expr-behind (unary_sign o) (unary-opens o) operand (behind-unary-free o operand joined) next)
+        (expr-apart depth 0 operand h next closes)
     expr-apart depth level (e.binary n o a b) (within, first, second) next closes =
         (expr-apart depth _ a first (Some space) (refl, refl), (((refl, refl), ((refl, refl), (refl, refl))), expr-apart depth _ b second next closes))
     expr-apart depth level (e.paren n inner) (below, opened, h) next closes =

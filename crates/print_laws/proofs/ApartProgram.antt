@@ -1,5 +1,5 @@
 -- The parts of programs are read as what they are.
-use Rattle.std.proofs.Common.{◌≡◌, true, false, Bool, ℕ, List, [], ◌∷◌, Option, Some, None, refl}
+use Rattle.std.proofs.Common.{◌≡◌, true, false, ℕ, List, [], ◌∷◌, Option, Some, None, refl}
 use Rattle.agxx_base.specs.declared.ids.NameId.{NameId}
 use Rattle.agxx_base.specs.declared.vocabulary.Sign.TheVariants as sg
 use Rattle.agxx_base.specs.declared.vocabulary.SpecialName.TheVariants as sn
@@ -13,17 +13,16 @@ use Rattle.cxx_tree.specs.declared.program.Directive.TheVariants as directive_of
 use Rattle.cxx_tree.specs.declared.program.Const.{Const}
 use Rattle.cxx_tree.specs.declared.program.Const.TheVariants as const_of
 use Rattle.cxx_tree.specs.declared.program.Param.{Param}
-use Rattle.cxx_tree.specs.declared.program.ClassName.{ClassName}
 use Rattle.cxx_tree.specs.declared.program.Variable.{Variable}
 use Rattle.cxx_tree.specs.Limits.{Grammar, HasAdviceForms, Limits, Every}
 use Rattle.cxx_tree.specs.Fits as fits
 use Rattle.cxx_tree.specs.ExprTree as e
 use Rattle.cxx_tree.specs.ProgramTree as p
 use Rattle.cxx_print.specs.Expressions.{typed}
-use Rattle.cxx_print.specs.Statements.{optional, block}
+use Rattle.cxx_print.specs.Statements.{optional}
 use Rattle.cxx_print.specs.Programs as f
 use Rattle.print_laws.proofs.Shapes.{Shape, letters, sign, space, AreApart}
-use Rattle.print_laws.proofs.ApartDocuments.{touches, front, Apart, Closes, parts-apart, parentheses-apart, ended-apart, line-apart}
+use Rattle.print_laws.proofs.ApartDocuments.{touches, front, Apart, parts-apart, parentheses-apart, ended-apart, line-apart}
 use Rattle.print_laws.proofs.ApartExpressions.{parenthesis-opens, type-behind, std-apart, typed-apart, flag-apart, arguments-apart}
 use Rattle.print_laws.proofs.ApartStatements.{block-apart}
 
@@ -53,6 +52,16 @@ params-in-parentheses (q ∷ qs) = type-behind sg.OpenParen parenthesis-opens q.
 
 params-apart : (qs : List Param) (next : Option Shape) → touches (sign sg.CloseParen) next ≡ true → Apart (f.params qs) next
 params-apart qs next is = parentheses-apart (f.separated_params qs) next (params-in-parentheses qs) (separated_params-apart qs) is
+
+-- ---- what stands behind the parameters of a constructor
+
+inits-close : (is : List p.InitTree) → touches (sign sg.CloseParen) (front (f.inits_after_commas is) (Some space)) ≡ true
+inits-close [] = refl
+inits-close (i ∷ is) = refl
+
+inits-behind : (is : List p.InitTree) → touches (sign sg.CloseParen) (front (f.inits is) (Some space)) ≡ true
+inits-behind [] = refl
+inits-behind (i ∷ is) = refl
 
 -- ---- heads of classes
 
@@ -118,10 +127,6 @@ module _ (grammar : Grammar) (no_advice : HasAdviceForms grammar → ⊥) (most 
   init-apart : (depth : ℕ) (i : p.InitTree) → fits.FitsArguments grammar most depth i.arguments → (next : Option Shape) → touches (sign sg.CloseParen) next ≡ true → Apart (f.init i) next
   init-apart depth i h next is = ((refl, refl), arguments-apart grammar no_advice most depth i.arguments h next is)
 
-  inits-close : (is : List p.InitTree) → touches (sign sg.CloseParen) (front (f.inits_after_commas is) (Some space)) ≡ true
-  inits-close [] = refl
-  inits-close (i ∷ is) = refl
-
   inits_after_commas-apart : (depth : ℕ) (is : List p.InitTree) → Every (λ (i : p.InitTree). fits.FitsArguments grammar most depth i.arguments) is
       → Apart (f.inits_after_commas is) (Some space)
   inits_after_commas-apart depth [] h = tt
@@ -137,10 +142,6 @@ module _ (grammar : Grammar) (no_advice : HasAdviceForms grammar → ⊥) (most 
     ((refl, refl), ((refl, refl), (refl, refl))),
     (init-apart depth i here (front (f.inits_after_commas is) (Some space)) (inits-close is), inits_after_commas-apart depth is there),
   )
-
-  inits-behind : (is : List p.InitTree) → touches (sign sg.CloseParen) (front (f.inits is) (Some space)) ≡ true
-  inits-behind [] = refl
-  inits-behind (i ∷ is) = refl
 
   ctor-apart : (depth level : ℕ) (c : p.CtorTree) → fits.FitsCtor grammar most depth c → Apart (f.ctor level c) (Some space)
   ctor-apart depth level c (params, inits, body) = (

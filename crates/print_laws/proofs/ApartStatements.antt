@@ -2,19 +2,18 @@
 use Rattle.std.proofs.Common.{◌≡◌, Bool, true, false, ℕ, List, [], ◌∷◌, Option, Some, None, refl}
 use Rattle.agxx_base.specs.declared.vocabulary.Sign.TheVariants as sg
 use Rattle.agxx_base.specs.declared.vocabulary.SpecialName.TheVariants as sn
-use Rattle.cxx_tree.specs.declared.stmt.Bump.{Bump}
 use Rattle.cxx_tree.specs.declared.expr.Left.{Left}
-use Rattle.cxx_tree.specs.Limits.{Grammar, HasAdviceForms, Opens, Every}
+use Rattle.cxx_tree.specs.Limits.{Grammar, HasAdviceForms, Every}
 use Rattle.cxx_tree.specs.Fits as fits
 use Rattle.cxx_tree.specs.Spelling.{bump_sign}
 use Rattle.cxx_tree.specs.ExprTree as e
 use Rattle.cxx_tree.specs.StmtTree as s
-use Rattle.cxx_print.specs.Document.{Document, deeper, indented}
+use Rattle.cxx_print.specs.Document.{deeper, indented}
 use Rattle.cxx_print.specs.Expressions as x
 use Rattle.cxx_print.specs.Statements as f
 use Rattle.print_laws.proofs.Shapes.{Shape, letters, sign, space}
 use Rattle.print_laws.proofs.ApartDocuments.{touches, front, Apart, Closes, quotes-touch, parentheses-apart, ended-apart, indented-apart, line-apart, optional-apart}
-use Rattle.print_laws.proofs.ApartExpressions.{IsOpener, parenthesis-opens, left-behind, callee-behind, type-behind, ref-behind, ref-apart, callee-apart, std-apart, typed-apart, commas-close, left-apart, expr-apart, commas-apart, full-apart, all-fit, arguments-apart, condition-apart}
+use Rattle.print_laws.proofs.ApartExpressions.{IsOpener, parenthesis-opens, left-behind, callee-behind, type-behind, ref-behind, ref-apart, callee-apart, std-apart, typed-apart, commas-close, left-apart, commas-apart, full-apart, all-fit, arguments-apart, condition-apart}
 
 -- ---- what may stand behind parts of a statement
 
@@ -127,12 +126,11 @@ module _ (grammar : Grammar) (no_advice : HasAdviceForms grammar → ⊥) (most 
   started-apart : (depth : ℕ) (t : s.ThreadTree) → fits.FitsArguments grammar most depth t.arguments → Apart (f.started t) (Some (sign sg.Semicolon))
   started-apart depth t (below, opened, h) =
       parentheses-apart (f.function_and_arguments t) (Some (sign sg.Semicolon))
-        (ref-behind sg.OpenParen parenthesis-opens t.function (front (x.after_commas t.arguments) (Some (sign sg.CloseParen))))
-        (
-          ref-apart t.function (front (x.after_commas t.arguments) (Some (sign sg.CloseParen))) (commas-close t.arguments).0,
-          commas-apart grammar no_advice below t.arguments (all-fit grammar no_advice most below t.arguments h),
-        )
-        refl
+      (ref-behind sg.OpenParen parenthesis-opens t.function (front (x.after_commas t.arguments) (Some (sign sg.CloseParen)))) (
+        ref-apart t.function (front (x.after_commas t.arguments) (Some (sign sg.CloseParen))) (commas-close t.arguments).0,
+        commas-apart grammar no_advice below t.arguments (all-fit grammar no_advice most below t.arguments h),
+      )
+      refl
 
   thread-apart : (depth : ℕ) (t : s.ThreadTree) → fits.FitsArguments grammar most depth t.arguments → Apart (f.thread t) (Some (sign sg.Semicolon))
   thread-apart depth t h = (std-apart sn.Thread (Some space) refl refl, ((refl, refl), ((refl, refl), started-apart depth t h)))
@@ -153,8 +151,8 @@ module _ (grammar : Grammar) (no_advice : HasAdviceForms grammar → ⊥) (most 
       (refl, refl),
       (
         ended-apart (f.optional x.expr condition) (Some space)
-          (optional-apart x.expr (Some (sign sg.Semicolon)) (λ t h. full-apart grammar no_advice most depth fits.expr_level t h (Some (sign sg.Semicolon)) (refl, refl)) condition tests)
-          refl,
+            (optional-apart x.expr (Some (sign sg.Semicolon)) (λ t h. full-apart grammar no_advice most depth fits.expr_level t h (Some (sign sg.Semicolon)) (refl, refl)) condition tests)
+            refl,
         ((refl, refl), optional-apart f.simple (Some (sign sg.CloseParen)) (simple-apart depth (Some (sign sg.CloseParen)) parenthesis-ends) step steps),
       ),
     ),
