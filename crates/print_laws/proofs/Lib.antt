@@ -3,4 +3,8 @@ pub mod Expressions
 pub mod Statements
 pub mod Programs
 pub mod Shapes
+pub mod ApartDocuments
+pub mod ApartExpressions
+pub mod ApartStatements
+pub mod ApartProgram
 pub mod ReadBack
