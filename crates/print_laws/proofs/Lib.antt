@@ -3,4 +3,12 @@ pub mod Expressions
 pub mod Statements
 pub mod Programs
 pub mod Shapes
+pub mod ApartProgram
+pub mod LexingTokens
+pub mod LexingWords
+pub mod LexingSigns
+pub mod LexingNumbers
+pub mod LexingStrings
+pub mod LexingDirectives
+pub mod LexingParts
 pub mod ReadBack
