@@ -90,7 +90,7 @@ allows space next (b ∷ bs) rest begins touch = tt
 -- ---- words and parts that are written
 
 module _ (mode : Mode) (names : List (List ℕ)) where
-  name-text-is : (id : ℕ) (is : IsName mode names id) → name_text names id ≡ is.0
+  pub name-text-is : (id : ℕ) (is : IsName mode names id) → name_text names id ≡ is.0
   name-text-is id is = ap (λ z. unwrap_or z []) is.1
 
   -- the kind of a word's token

@@ -11,4 +11,5 @@ pub mod LexingNumbers
 pub mod LexingStrings
 pub mod LexingDirectives
 pub mod LexingParts
+pub mod LexingNames
 pub mod ReadBack
