@@ -32,7 +32,7 @@ longer_interned names text = by (is_known names text) refl
     by true e = ([], ap (λ b. if b then names else names ++ text ∷ []) e ∙ sym (append-nil names))
     by false e = (text ∷ [], ap (λ b. if b then names else names ++ text ∷ []) e)
 
-same-bytes : (text : List ℕ) → bytes_eq text text ≡ true
+pub same-bytes : (text : List ℕ) → bytes_eq text text ≡ true
 same-bytes text = (bytes_eq-Decides text text).1 refl
 
 number-kept : (names more : List (List ℕ)) (text : List ℕ) → is_known names text ≡ true → number_of (names ++ more) text ≡ number_of names text

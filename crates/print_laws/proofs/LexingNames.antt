@@ -1,5 +1,5 @@
 -- The names of a text have their numbers already.
-use Rattle.std.proofs.Common.{◌≡◌, ℕ, zero, suc, ◌<◌, Bool, true, false, not, cond, ◌||◌, List, [], ◌∷◌, ◌++◌, length, Some, slice_get, codes, refl, sym, ap, ◌∙◌, arith, true≢false}
+use Rattle.std.proofs.Common.{◌≡◌, ℕ, zero, suc, ◌<◌, Bool, true, false, ◌||◌, List, [], ◌∷◌, length, Some, slice_get, codes, refl, sym, ap, ◌∙◌, arith}
 use Rattle.std.specs.Str.{bytes_eq}
 use Rattle.std.specs.Prelude.{slice_index_or}
 use Rattle.std.proofs.lemmas.Slice.Eq.{bytes_eq-Decides}
@@ -18,19 +18,16 @@ use Rattle.cxx_tree.specs.Words.{Word}
 use Rattle.cxx_expr.specs.Tokens as grammar
 use Rattle.cxx_stmt.specs.Dialect.{special_of}
 use Rattle.cxx_parse.specs.Numbering.{IsLonger, with_name, with_names, with_special, dialect_in, word_in, words_in}
-use Rattle.cxx_parse.proofs.Numbers.{known-interned, known-kept, longer_interned, longer_through, longer_self}
+use Rattle.cxx_parse.proofs.Numbers.{same-bytes, known-interned, known-kept, longer_interned, longer_through, longer_self}
 use Rattle.cxx_print.specs.Document.{Part, word, special, blank, margin, newline}
-use Rattle.cxx_print.specs.Texts.{quoted, name_text, word_text, part_text}
-use Rattle.cxx_written.specs.Written.{IsName, IsWrittenWord}
+use Rattle.cxx_print.specs.Texts.{quoted, word_text}
+use Rattle.cxx_written.specs.Written.{IsWrittenWord}
 use Rattle.print_laws.specs.Spelled.{words_of}
 use Rattle.print_laws.proofs.Shapes.{is_in_programs, AreApart}
 use Rattle.print_laws.proofs.LexingParts.{name-text-is, kind_of, IsWrittenPart, tokens_of}
 use Rattle.print_laws.proofs.LexingStrings.{quoted-string}
 
 -- ---- numbers and texts
-
-same-bytes : (text : List ℕ) → bytes_eq text text ≡ true
-same-bytes text = (bytes_eq-Decides text text).1 refl
 
 -- what stands at a place
 at-place : (names : List (List ℕ)) (id : ℕ) (text default : List ℕ) → slice_get names id ≡ Some text → (id < length names) × (slice_index_or names id default ≡ text)

@@ -1,5 +1,5 @@
 -- Numbers at the front of a text.
-use Rattle.std.proofs.Common.{◌≡◌, ℕ, zero, suc, ◌≤◌, ◌<◌, ◌+◌, ◌-◌, ◌*◌, ◌/◌, ◌%◌, ◌^◌, Bool, true, false, cond, List, [], ◌∷◌, ◌++◌, take, drop, fold, length, length-append, append_assoc, codes, Some, None, Ok, refl, sym, ap, ◌∙◌, subst, arith}
+use Rattle.std.proofs.Common.{◌≡◌, ℕ, zero, suc, ◌≤◌, ◌<◌, ◌+◌, ◌-◌, ◌*◌, ◌/◌, ◌%◌, ◌^◌, Bool, true, false, cond, List, [], ◌∷◌, ◌++◌, take, drop, length, length-append, append_assoc, codes, Some, None, Ok, refl, ap, ◌∙◌, arith}
 use Rattle.std.specs.Prelude.{◌==◌, nat_lt, decimal as written}
 use Rattle.std.specs.List.{list_all}
 use Rattle.std.proofs.lemmas.Bool.Decides.{nat_tests}
@@ -14,8 +14,8 @@ use Rattle.cxx_lex.specs.declared.numbers.Suffix.{Suffix}
 use Rattle.cxx_lex.specs.declared.numbers.Suffix.TheVariants as ending_of
 use Rattle.cxx_lex.specs.declared.tok.TokKind.TheVariants as kind
 use Rattle.cxx_lex.specs.Bytes.{is_letter, is_digit, is_hexadecimal, is_x, is_part}
-use Rattle.cxx_lex.specs.Numbers.{digit_value, in_base, IsNumeral, nought, decimal, hexadecimal, kind_for, by_kind, number_verdict}
-use Rattle.cxx_lex.specs.NumberScan.{base_at, digits_len, digits_value, suffix_at, suffix_len, suffixed_lexeme, number_lexeme}
+use Rattle.cxx_lex.specs.Numbers.{digit_value, IsNumeral, nought, decimal, hexadecimal, kind_for, by_kind, number_verdict}
+use Rattle.cxx_lex.specs.NumberScan.{digits_len, digits_value, suffix_at, suffix_len, suffixed_lexeme, number_lexeme}
 use Rattle.cxx_lex.specs.Scan.{lexeme}
 use Rattle.cxx_lex.specs.Tokens.{clashes, IsTokenAt}
 use Rattle.cxx_lex.proofs.NumberCut.{Apart, numeral-first, no-numeral, numeral-exact}

@@ -1,13 +1,10 @@
 -- The parts of a text are its tokens.
-use Rattle.std.proofs.Common.{◌≡◌, ℕ, Bool, true, false, cond, List, [], ◌∷◌, ◌++◌, length, Option, Some, None, slice_get, unwrap_or, codes, refl, sym, ap, ◌∙◌, subst, arith, map}
+use Rattle.std.proofs.Common.{◌≡◌, ℕ, true, false, List, [], ◌∷◌, ◌++◌, unwrap_or, codes, refl, sym, ap, ◌∙◌, subst, arith}
 use Rattle.std.specs.Prelude.{decimal}
 use Rattle.std.proofs.lemmas.Bool.Decides.{nat_tests}
 use Rattle.agxx_base.specs.declared.kind.Mode.{Mode}
 use Rattle.agxx_base.specs.declared.place.Place.{Place}
-use Rattle.agxx_base.specs.declared.vocabulary.Keyword.{Keyword}
 use Rattle.agxx_base.specs.declared.vocabulary.Sign.{Sign}
-use Rattle.agxx_base.specs.declared.vocabulary.SpecialName.{SpecialName}
-use Rattle.agxx_base.specs.declared.vocabulary.SpecialName.TheVariants as special_name
 use Rattle.agxx_base.specs.Vocabulary.{keyword_text, sign_text, special_text}
 use Rattle.cxx_lex.specs.declared.tok.TokKind.{TokKind}
 use Rattle.cxx_lex.specs.declared.tok.TokKind.TheVariants as kind
@@ -22,7 +19,7 @@ use Rattle.cxx_tree.specs.Words as w
 use Rattle.cxx_tree.specs.Words.{Word}
 use Rattle.cxx_print.specs.Document.{Part, word, special, blank, margin, newline}
 use Rattle.cxx_print.specs.Texts.{suffix, name_text, word_text, part_text, text_of_parts}
-use Rattle.cxx_written.specs.Written.{IsNameText, IsName, IsWrittenWord}
+use Rattle.cxx_written.specs.Written.{IsName, IsWrittenWord}
 use Rattle.print_laws.proofs.Shapes.{Shape, letters, quotes, sign, directive, space, word_shape, shape, is_longer_by, may_touch, is_spelled_word, is_spelled, Touches, AreApart}
 use Rattle.print_laws.proofs.LexingDirectives.{include-token, pragma-token}
 use Rattle.print_laws.proofs.LexingNumbers.{number-token, first-digit}

@@ -1,5 +1,5 @@
 -- Signs at the front of a text.
-use Rattle.std.proofs.Common.{◌≡◌, ℕ, suc, ◌≤◌, ◌<◌, Bool, true, false, List, [], ◌∷◌, ◌++◌, map, length, Some, Result, Ok, ◌⊎◌, inl, inr, refl, sym, ap, ◌∙◌, subst, arith, eq-eqb}
+use Rattle.std.proofs.Common.{◌≡◌, ℕ, ◌≤◌, ◌<◌, Bool, true, false, List, [], ◌∷◌, ◌++◌, map, length, Result, refl, sym, ap, ◌∙◌, subst, arith, eq-eqb}
 use Rattle.std.specs.Prelude.{◌==◌, ◌&&◌, ◌||◌, not}
 use Rattle.std.specs.List.{list_all, list_any}
 use Rattle.std.proofs.lemmas.Bool.{false≢true, eqb-true}
@@ -14,10 +14,11 @@ use Rattle.cxx_lex.specs.Bytes.{is_blank, is_part, opens_comment, begins_comment
 use Rattle.cxx_lex.specs.Lexemes.{IsLexeme, sign}
 use Rattle.cxx_lex.specs.SignScan.{signs}
 use Rattle.cxx_lex.specs.Tokens.{IsTokenAt}
-use Rattle.cxx_lex.proofs.Members.{no-member, only-sign}
+use Rattle.cxx_lex.proofs.Members.{only-sign}
 use Rattle.cxx_lex.proofs.Runs.{both, not-false}
 use Rattle.cxx_lex.proofs.SignCut.{sign-entry, sign-first, no-sign}
 use Rattle.cxx_lex.proofs.Tables.{entry-pass}
+use Rattle.print_laws.proofs.LexingTokens.{no-slash}
 use Rattle.print_laws.proofs.Shapes.{all_signs, goes_on, is_longer}
 
 -- ---- booleans and lists
@@ -80,8 +81,7 @@ is_no_comment (b ∷ c ∷ cs) = not (opens_comment b c)
 
 none-begins : (text rest : List ℕ) → is_no_comment text ≡ true → begins_comment (text ++ rest) ≡ false
 none-begins [] rest e = cc
-none-begins (b ∷ []) [] e = refl
-none-begins (b ∷ []) (c ∷ cs) e = rw (not-false (b == 47) e) refl
+none-begins (b ∷ []) rest e = no-slash b rest (not-false (b == 47) e)
 none-begins (b ∷ c ∷ cs) rest e = not-false (opens_comment b c) e
 
 sign-comment : (s : Sign) (rest : List ℕ) → IsWhole (sign_text s) rest → begins_comment (sign_text s ++ rest) ≡ false

@@ -13,7 +13,7 @@ use Rattle.agxx_base.specs.declared.vocabulary.SpecialName.TheVariants as specia
 use Rattle.agxx_base.specs.Vocabulary.{keyword_text, special_text}
 use Rattle.cxx_lex.specs.declared.tok.TokKind.{TokKind}
 use Rattle.cxx_lex.specs.declared.tok.TokKind.TheVariants as kind
-use Rattle.cxx_lex.specs.Bytes.{is_letter, is_part, begins_comment}
+use Rattle.cxx_lex.specs.Bytes.{is_letter, is_part}
 use Rattle.cxx_lex.specs.Runs.{run}
 use Rattle.cxx_lex.specs.Scan.{lexeme}
 use Rattle.cxx_lex.specs.Tokens.{clashes, IsTokenAt}
@@ -63,7 +63,6 @@ keyword-found (k.Number num.U32) e = refl
 keyword-found (k.Number num.I64) e = refl
 keyword-found (k.Number num.U64) e = refl
 keyword-found k.Reserved e = cc
-keyword-found k.Class e = refl
 keyword-found _ e = refl
 
 pub keyword-word : (it : Keyword) → is_spelled_word (w.keyword it) ≡ true → IsWord (keyword_text it)
@@ -77,7 +76,6 @@ keyword-word (k.Number num.U32) e = (refl, refl)
 keyword-word (k.Number num.I64) e = (refl, refl)
 keyword-word (k.Number num.U64) e = (refl, refl)
 keyword-word k.Reserved e = cc
-keyword-word k.Class e = (refl, refl)
 keyword-word _ e = (refl, refl)
 
 pub keyword-token : (mode : Mode) (it : Keyword) (rest : List ℕ) → is_spelled_word (w.keyword it) ≡ true → Stops is_part rest → IsTokenAt mode (kind.Keyword it) (keyword_text it) rest

@@ -1,5 +1,5 @@
 -- The canonical text of a written program reads as the program.
-use Rattle.std.proofs.Common.{◌≡◌, ℕ, List, [], ◌∷◌, append-nil, refl, sym, ap, ◌∙◌, subst}
+use Rattle.std.proofs.Common.{◌≡◌, ℕ, List, [], ◌∷◌, append-nil, sym, ap, ◌∙◌, subst}
 use Rattle.agxx_base.specs.declared.fault.Refusal.{Refusal}
 use Rattle.agxx_base.specs.declared.kind.Mode.{Mode}
 use Rattle.agxx_base.specs.declared.kind.Mode.TheVariants as mode_of
@@ -9,8 +9,6 @@ use Rattle.cxx_lex.specs.Place.{start_of}
 use Rattle.cxx_lex.specs.Tokens.{Token}
 use Rattle.cxx_tree.specs.Limits.{HasAdviceForms, grammar_of, limits_of, Every}
 use Rattle.cxx_tree.specs.ProgramTree.{ProgramTree}
-use Rattle.cxx_tree.specs.Same.{IsSame}
-use Rattle.cxx_tree.specs.Words.{Word}
 use Rattle.cxx_expr.specs.Tokens as grammar
 use Rattle.cxx_stmt.specs.declared.dialect.Dialect.{Dialect}
 use Rattle.cxx_stmt.specs.Dialect.{special_of, IsApart}
@@ -20,8 +18,8 @@ use Rattle.cxx_parse.proofs.Numbers.{apart-later}
 use Rattle.cxx_parse.proofs.Whole.{spelling-unique}
 use Rattle.cxx_print.specs.Document.{Part, word, special, blank, margin, newline}
 use Rattle.cxx_print.specs.Programs.{printed_program}
-use Rattle.cxx_written.specs.Written.{IsWrittenWord, IsWritten}
-use Rattle.print_laws.specs.ReadBack.{ReadsBack, TextsReadBack}
+use Rattle.cxx_written.specs.Written.{IsWrittenWord}
+use Rattle.print_laws.specs.ReadBack.{TextsReadBack}
 use Rattle.print_laws.specs.Spelled.{words_of}
 use Rattle.print_laws.proofs.ApartProgram.{program-apart}
 use Rattle.print_laws.proofs.LexingNames.{tokens-words, tokens-known}
