@@ -76,7 +76,7 @@ pub at-end : (names : List (List ℕ)) (text : List ℕ) → slice_get (names ++
 at-end [] text = refl
 at-end (name ∷ names) text = at-end names text
 
-pub keeps-append : (names more : List (List ℕ)) (old : List ℕ) (id : ℕ) → slice_get names id ≡ Some old → slice_get (names ++ more) id ≡ Some old
+keeps-append : (names more : List (List ℕ)) (old : List ℕ) (id : ℕ) → slice_get names id ≡ Some old → slice_get (names ++ more) id ≡ Some old
 keeps-append [] more old id at = absurd (cc at)
 keeps-append (name ∷ names) more old zero at = at
 keeps-append (name ∷ names) more old (suc id) at = keeps-append names more old id at

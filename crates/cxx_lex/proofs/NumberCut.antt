@@ -19,7 +19,7 @@ use Rattle.cxx_lex.proofs.Tables.{entry-pass}
 -- ---- suffixes
 
 -- behind a numeral stands nothing that it could go on with
-abbrev pub Apart : List ℕ → Type 0
+abbrev Apart : List ℕ → Type 0
 Apart rest = Stops is_hexadecimal rest × Stops is_x rest
 
 abbrev is_apart : List ℕ → Bool
@@ -124,7 +124,7 @@ numeral-first base value b bs (nought e v t) = let s : b ≡ 48 = cc in ap is_di
 numeral-first base value b bs (decimal first more e t d n a v) = let s : b ≡ first = cc in ap is_digit s ∙ d
 numeral-first base value b bs (hexadecimal x first more e t k d a v) = let s : b ≡ 48 = cc in ap is_digit s
 
-pub no-numeral : (base : Base) (value : ℕ) → IsNumeral base value [] → ⊥
+no-numeral : (base : Base) (value : ℕ) → IsNumeral base value [] → ⊥
 no-numeral base value (nought e v t) = cc
 no-numeral base value (decimal first more e t d n a v) = cc
 no-numeral base value (hexadecimal x first more e t k d a v) = cc
@@ -146,10 +146,10 @@ numeral-most base value digits rest (hexadecimal x first more e t k d a v) =
     let p : is_prefixed (48 ∷ x ∷ first ∷ (more ++ rest)) ≡ true = rw (k, d) refl in
     subst (Most rest) (sym t) (rw p (omega (arith, m)))
 
-abbrev pub Exact : Base → ℕ → List ℕ → List ℕ → Type 0
+abbrev Exact : Base → ℕ → List ℕ → List ℕ → Type 0
 Exact base value rest digits = (digits_len (digits ++ rest) ≡ length digits) × (base_at (digits ++ rest) ≡ base) × (digits_value base digits ≡ value)
 
-pub numeral-exact : (base : Base) (value : ℕ) (digits rest : List ℕ) → IsNumeral base value digits → Apart rest → Exact base value rest digits
+numeral-exact : (base : Base) (value : ℕ) (digits rest : List ℕ) → IsNumeral base value digits → Apart rest → Exact base value rest digits
 numeral-exact base value digits rest (nought e v t) s =
     subst (Exact base value rest) (sym t) (rw (no-prefix rest s.1) refl, rw (no-prefix rest s.1) (sym e), ap (λ z. digits_value z (48 ∷ [])) e ∙ sym v)
 numeral-exact base value digits rest (decimal first more e t d n a v) s =

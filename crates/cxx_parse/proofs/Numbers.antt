@@ -32,7 +32,7 @@ longer_interned names text = by (is_known names text) refl
     by true e = ([], ap (λ b. if b then names else names ++ text ∷ []) e ∙ sym (append-nil names))
     by false e = (text ∷ [], ap (λ b. if b then names else names ++ text ∷ []) e)
 
-pub same-bytes : (text : List ℕ) → bytes_eq text text ≡ true
+same-bytes : (text : List ℕ) → bytes_eq text text ≡ true
 same-bytes text = (bytes_eq-Decides text text).1 refl
 
 number-kept : (names more : List (List ℕ)) (text : List ℕ) → is_known names text ≡ true → number_of (names ++ more) text ≡ number_of names text
@@ -51,7 +51,7 @@ known-last (name ∷ names) text = by (bytes_eq text name) refl (known-last name
     by true e rest = rw e refl
     by false e rest = rw e rest
 
-pub known-interned : (names : List (List ℕ)) (text : List ℕ) → is_known (interned names text) text ≡ true
+known-interned : (names : List (List ℕ)) (text : List ℕ) → is_known (interned names text) text ≡ true
 known-interned names text = by (is_known names text) refl
   where
     by : (known : Bool) → is_known names text ≡ known → is_known (interned names text) text ≡ true
@@ -168,7 +168,7 @@ owned-left names next all done new word (t ∷ ts) x n whole i h e w a d p =
 
 -- ---- names with a meaning have different numbers
 
-pub known-kept : (names more : List (List ℕ)) (text : List ℕ) → is_known names text ≡ true → is_known (names ++ more) text ≡ true
+known-kept : (names more : List (List ℕ)) (text : List ℕ) → is_known names text ≡ true → is_known (names ++ more) text ≡ true
 known-kept [] more text known = absurd (true≢false (sym known))
 known-kept (name ∷ names) more text known = by (bytes_eq text name) refl (known-kept names more text)
   where

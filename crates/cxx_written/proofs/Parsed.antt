@@ -9,7 +9,7 @@ use Rattle.agxx_base.specs.declared.place.Place.{Place}
 use Rattle.agxx_base.specs.declared.rule.Rule.TheVariants.{L4, L5}
 use Rattle.agxx_base.specs.declared.vocabulary.Keyword.{Keyword}
 use Rattle.agxx_base.specs.Names.{number_of, interned}
-use Rattle.agxx_base.proofs.Interning.{text-interned, keeps-append}
+use Rattle.agxx_base.proofs.Interning.{text-interned, interned-keeps}
 use Rattle.cxx_lex.specs.declared.numbers.Base.{Base}
 use Rattle.cxx_lex.specs.declared.numbers.Base.TheVariants.{Decimal, Hexadecimal}
 use Rattle.cxx_lex.specs.declared.numbers.Suffix.{Suffix}
@@ -26,7 +26,7 @@ use Rattle.cxx_lex.proofs.Runs.{both}
 use Rattle.cxx_lex.proofs.StringCut.{reads_quoted}
 use Rattle.cxx_tree.specs.Limits.{Every}
 use Rattle.cxx_expr.specs.Tokens.{words_of}
-use Rattle.cxx_parse.specs.Numbering.{IsLonger, with_name, with_names, with_special, names_of, word_in, words_in}
+use Rattle.cxx_parse.specs.Numbering.{with_name, with_names, with_special, names_of, word_in, words_in}
 use Rattle.cxx_parse.proofs.Numbers.{number-later, longer-names}
 use Rattle.cxx_written.specs.Written.{literal_bound, IsWrittenWord, ParsedIsWritten}
 
@@ -98,17 +98,20 @@ module _ (mode : Mode) (names : List (List ℕ)) where
 
 -- ---- the tokens of a text
 
-stands-later : (names later : List (List ℕ)) (token : TokKind) (text : List ℕ) → IsLonger (with_name names token text) later → Stands later token text
-stands-later names later kind.Name text l =
-    ap (slice_get later) (number-later names later text l)
-    ∙ ap (λ z. slice_get z (number_of names text)) l.1
-    ∙ keeps-append (interned names text) l.0 text (number_of names text) (text-interned names text)
-stands-later names later (kind.Keyword k) text l = tt
-stands-later names later (kind.Number value k) text l = tt
-stands-later names later kind.Text text l = tt
-stands-later names later (kind.Sign s) text l = tt
-stands-later names later (kind.Include header) text l = tt
-stands-later names later kind.PragmaOnce text l = tt
+-- texts keep their numbers as the tokens get theirs
+kept-one : (names : List (List ℕ)) (token : TokKind) (text old : List ℕ) (id : ℕ) → slice_get names id ≡ Some old → slice_get (with_name names token text) id ≡ Some old
+kept-one names kind.Name text old id at = interned-keeps names text old id at
+kept-one names _ text old id at = at
+
+kept : (names : List (List ℕ)) (ts : List Token) (old : List ℕ) (id : ℕ) → slice_get names id ≡ Some old → slice_get (with_names names ts) id ≡ Some old
+kept names [] old id at = at
+kept names (t ∷ ts) old id at = kept (with_name names t.kind t.text) ts old id (kept-one names t.kind t.text old id at)
+
+stands-later : (names : List (List ℕ)) (token : TokKind) (text : List ℕ) (ts : List Token) → Stands (with_names (with_name names token text) ts) token text
+stands-later names kind.Name text ts =
+    ap (slice_get (with_names (interned names text) ts)) (number-later names (with_names (interned names text) ts) text (longer-names (interned names text) ts))
+    ∙ kept (interned names text) ts text (number_of names text) (text-interned names text)
+stands-later names _ text ts = tt
 
 -- where the names before a part of the tokens lead to these
 tokens-written : (mode : Mode) (all names : List (List ℕ)) (at : Place) (text : List ℕ) (ts : List Token) (end : Place) (left : List ℕ) → Reads mode at text ts end left → with_names names ts ≡ all
@@ -116,7 +119,7 @@ tokens-written : (mode : Mode) (all names : List (List ℕ)) (at : Place) (text 
 tokens-written mode all names at text ts end left (arrives a t) e = tt
 tokens-written mode all names at text ts end left (past_gap a t gap rest us last more p g r) e = tokens-written mode all names _ rest us last more r e
 tokens-written mode all names at text ts end left (past_token a t rest tok us last more p q i r) e = (
-  token-written mode all tok.kind tok.text i.longest.lexeme (stands-later names all tok.kind tok.text (subst (IsLonger (with_name names tok.kind tok.text)) e (longer-names (with_name names tok.kind tok.text) us))),
+  token-written mode all tok.kind tok.text i.longest.lexeme (subst (λ z. Stands z tok.kind tok.text) e (stands-later names tok.kind tok.text us)),
   tokens-written mode all (with_name names tok.kind tok.text) _ rest us last more r e,
 )
 

@@ -9,7 +9,7 @@ use Rattle.agxx_base.specs.declared.vocabulary.SpecialName.{SpecialName}
 use Rattle.agxx_base.specs.declared.vocabulary.SpecialName.TheVariants as special_name
 use Rattle.agxx_base.specs.Names.{IsDistinct, number_of, is_known, interned}
 use Rattle.agxx_base.specs.Vocabulary.{special_text}
-use Rattle.agxx_base.proofs.Interning.{interned-known}
+use Rattle.agxx_base.proofs.Interning.{interned-known, text-interned, interned-keeps}
 use Rattle.cxx_lex.specs.Place.{place_after}
 use Rattle.cxx_lex.proofs.StringCut.{reads_quoted}
 use Rattle.cxx_tree.specs.Limits.{Every}
@@ -17,8 +17,7 @@ use Rattle.cxx_tree.specs.Words as w
 use Rattle.cxx_tree.specs.Words.{Word}
 use Rattle.cxx_expr.specs.Tokens as grammar
 use Rattle.cxx_stmt.specs.Dialect.{special_of}
-use Rattle.cxx_parse.specs.Numbering.{IsLonger, with_name, with_names, with_special, dialect_in, word_in, words_in}
-use Rattle.cxx_parse.proofs.Numbers.{same-bytes, known-interned, known-kept, longer_interned, longer_through, longer_self}
+use Rattle.cxx_parse.specs.Numbering.{with_name, with_names, with_special, dialect_in, word_in, words_in}
 use Rattle.cxx_print.specs.Document.{Part, word, special, blank, margin, newline}
 use Rattle.cxx_print.specs.Texts.{quoted, word_text}
 use Rattle.cxx_written.specs.Written.{IsWrittenWord}
@@ -29,6 +28,9 @@ use Rattle.print_laws.proofs.LexingStrings.{quoted-string}
 
 -- ---- numbers and texts
 
+same-text : (text name : List ℕ) → name ≡ text → bytes_eq text name ≡ true
+same-text text name same = (bytes_eq-Decides text name).1 (sym same)
+
 -- what stands at a place
 at-place : (names : List (List ℕ)) (id : ℕ) (text default : List ℕ) → slice_get names id ≡ Some text → (id < length names) × (slice_index_or names id default ≡ text)
 at-place [] id text default at = absurd (cc at)
@@ -37,7 +39,7 @@ at-place (name ∷ names) (suc id) text default at = let p = at-place names id t
 
 known-at : (names : List (List ℕ)) (id : ℕ) (text : List ℕ) → slice_get names id ≡ Some text → is_known names text ≡ true
 known-at [] id text at = absurd (cc at)
-known-at (name ∷ names) zero text at = let same : name ≡ text = cc in rw (same, same-bytes text) refl
+known-at (name ∷ names) zero text at = let same : name ≡ text = cc in rw (same-text text name same) refl
 known-at (name ∷ names) (suc id) text at = ap (λ z. bytes_eq text name || z) (known-at names id text at) ∙ or-true (bytes_eq text name)
   where
     or-true : (x : Bool) → (x || true) ≡ true
@@ -47,7 +49,7 @@ known-at (name ∷ names) (suc id) text at = ap (λ z. bytes_eq text name || z) 
 -- a text that stands in one place has that number
 number-at : (names : List (List ℕ)) (id : ℕ) (text : List ℕ) → IsDistinct names → slice_get names id ≡ Some text → number_of names text ≡ id
 number-at [] id text distinct at = absurd (cc at)
-number-at (name ∷ names) zero text distinct at = let same : name ≡ text = cc in rw (same, same-bytes text) refl
+number-at (name ∷ names) zero text distinct at = let same : name ≡ text = cc in rw (same-text text name same) refl
 number-at (name ∷ names) (suc id) text distinct at = by (bytes_eq text name) refl (number-at names id text (λ i j d l m. distinct (suc i) (suc j) d (omega (arith, l)) (omega (arith, m))) at)
   where
     by : (same : Bool) → bytes_eq text name ≡ same → number_of names text ≡ id → number_of (name ∷ names) text ≡ suc id
@@ -58,9 +60,6 @@ number-at (name ∷ names) (suc id) text distinct at = by (bytes_eq text name) r
 
 -- ---- names with a meaning
 
-known-later : (names later : List (List ℕ)) (text : List ℕ) → IsLonger (interned names text) later → is_known later text ≡ true
-known-later names later text l = ap (λ q. is_known q text) l.1 ∙ known-kept (interned names text) l.0 text (known-interned names text)
-
 special-known : (names : List (List ℕ)) (given : SpecialName) → is_in_programs given ≡ true → is_known (with_special names) (special_text given) ≡ true
 special-known names given e =
     let n1 : List (List ℕ) = interned names (codes "std") in
@@ -69,13 +68,13 @@ special-known names given e =
     let n4 : List (List ℕ) = interned n3 (codes "cout") in
     let n5 : List (List ℕ) = interned n4 (codes "endl") in
     let n6 : List (List ℕ) = interned n5 (codes "abort") in
-    let l5 : IsLonger n5 n6 = longer_interned n5 (codes "abort") in
-    let l4 : IsLonger n4 n6 = longer_through n4 n5 n6 (longer_interned n4 (codes "endl")) l5 in
-    let l3 : IsLonger n3 n6 = longer_through n3 n4 n6 (longer_interned n3 (codes "cout")) l4 in
-    let l2 : IsLonger n2 n6 = longer_through n2 n3 n6 (longer_interned n2 (codes "thread")) l3 in
-    let l1 : IsLonger n1 n6 = longer_through n1 n2 n6 (longer_interned n1 (codes "mutex")) l2 in
-    by given e (known-later names n6 (codes "std") l1) (known-later n1 n6 (codes "mutex") l2) (known-later n2 n6 (codes "thread") l3) (known-later n3 n6 (codes "cout") l4)
-    (known-later n4 n6 (codes "endl") l5) (known-later n5 n6 (codes "abort") (longer_self n6))
+    let last : (text : List ℕ) (id : ℕ) → slice_get n5 id ≡ Some text → is_known n6 text ≡ true = λ text id at. known-at n6 id text (interned-keeps n5 (codes "abort") text id at) in
+    let fourth : (text : List ℕ) (id : ℕ) → slice_get n4 id ≡ Some text → is_known n6 text ≡ true = λ text id at. last text id (interned-keeps n4 (codes "endl") text id at) in
+    let third : (text : List ℕ) (id : ℕ) → slice_get n3 id ≡ Some text → is_known n6 text ≡ true = λ text id at. fourth text id (interned-keeps n3 (codes "cout") text id at) in
+    let second : (text : List ℕ) (id : ℕ) → slice_get n2 id ≡ Some text → is_known n6 text ≡ true = λ text id at. third text id (interned-keeps n2 (codes "thread") text id at) in
+    let first : (text : List ℕ) (id : ℕ) → slice_get n1 id ≡ Some text → is_known n6 text ≡ true = λ text id at. second text id (interned-keeps n1 (codes "mutex") text id at) in
+    by given e (first (codes "std") _ (text-interned names (codes "std"))) (second (codes "mutex") _ (text-interned n1 (codes "mutex"))) (third (codes "thread") _ (text-interned n2 (codes "thread")))
+    (fourth (codes "cout") _ (text-interned n3 (codes "cout"))) (last (codes "endl") _ (text-interned n4 (codes "endl"))) (known-at n6 _ (codes "abort") (text-interned n5 (codes "abort")))
   where
     Known : List ℕ → Type 0
     Known text = is_known (with_special names) text ≡ true

@@ -22,7 +22,7 @@ use Rattle.cxx_print.specs.Texts.{suffix, name_text, word_text, part_text, text_
 use Rattle.cxx_written.specs.Written.{IsName, IsWrittenWord}
 use Rattle.print_laws.proofs.Shapes.{Shape, letters, quotes, sign, directive, space, word_shape, shape, is_longer_by, may_touch, is_spelled_word, is_spelled, Touches, AreApart}
 use Rattle.print_laws.proofs.LexingDirectives.{include-token, pragma-token}
-use Rattle.print_laws.proofs.LexingNumbers.{number-token, first-digit}
+use Rattle.print_laws.proofs.LexingNumbers.{digit-part, number-token, BeginsWithDigit, number-begins}
 use Rattle.print_laws.proofs.LexingSigns.{IsWhole, sign-token, is_outside, outside-whole}
 use Rattle.print_laws.proofs.LexingStrings.{text-token}
 use Rattle.print_laws.proofs.LexingWords.{name-token, keyword-word, keyword-token, special-is-name}
@@ -51,9 +51,6 @@ blank-part b e = grind (arith, nat_tests, e)
 
 sign-part : (b : ℕ) → is_letter b ≡ false → is_digit b ≡ false → is_part b ≡ false
 sign-part b l d = rw (l, d) refl
-
-digit-part : (b : ℕ) → is_digit b ≡ true → is_part b ≡ true
-digit-part b d = grind (arith, nat_tests, d)
 
 part-outside : (b : ℕ) → is_part b ≡ true → is_outside b ≡ true
 part-outside b e = rw e refl
@@ -118,13 +115,13 @@ module _ (mode : Mode) (names : List (List ℕ)) where
   sign-begins s [] e = no-sign s e
   sign-begins s (b ∷ bs) e = e
 
-  number-begins : (text rest : List ℕ) → ((b : ℕ) × (bs : List ℕ) × (text ≡ b ∷ bs) × (is_digit b ≡ true)) → Begins letters (text ++ rest)
-  number-begins [] rest (b, bs, e, d) = cc
-  number-begins (c ∷ cs) rest (b, bs, e, d) = let same : c ≡ b = cc in subst (λ z. is_part z ≡ true) (sym same) (digit-part b d)
+  digit-begins : (text rest : List ℕ) → BeginsWithDigit text → Begins letters (text ++ rest)
+  digit-begins [] rest is = absurd is
+  digit-begins (b ∷ bs) rest is = digit-part b is
 
   begins-word : (it : Word) → IsWrittenWord mode names it → is_spelled_word it ≡ true → Begins (word_shape it) (word_text names it)
   begins-word (w.name id) is spelled = subst (Begins letters) (sym (name-text-is id is)) (word-begins is.0 is.2.0)
-  begins-word (w.number value number) is spelled = number-begins (decimal value) (suffix number) (first-digit value number is)
+  begins-word (w.number value number) is spelled = digit-begins (decimal value) (suffix number) (number-begins value number is)
   begins-word (w.text bytes) is spelled = refl
   begins-word (w.keyword keyword) is spelled = word-begins (keyword_text keyword) (keyword-word keyword spelled)
   begins-word (w.sign s) is spelled = sign-begins s (sign_text s) refl
