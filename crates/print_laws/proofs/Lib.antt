@@ -7,4 +7,12 @@ pub mod ApartDocuments
 pub mod ApartExpressions
 pub mod ApartStatements
 pub mod ApartProgram
+pub mod LexingTokens
+pub mod LexingWords
+pub mod LexingSigns
+pub mod LexingNumbers
+pub mod LexingStrings
+pub mod LexingDirectives
+pub mod LexingParts
+pub mod LexingNames
 pub mod ReadBack
