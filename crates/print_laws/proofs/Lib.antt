@@ -2,3 +2,17 @@ pub mod Documents
 pub mod Expressions
 pub mod Statements
 pub mod Programs
+pub mod Shapes
+pub mod ApartDocuments
+pub mod ApartExpressions
+pub mod ApartStatements
+pub mod ApartProgram
+pub mod LexingTokens
+pub mod LexingWords
+pub mod LexingSigns
+pub mod LexingNumbers
+pub mod LexingStrings
+pub mod LexingDirectives
+pub mod LexingParts
+pub mod LexingNames
+pub mod ReadBack
