@@ -1,6 +1,8 @@
 pub mod Verdicts
 pub mod States
 pub mod Insides
+pub mod Keeps
+pub mod Stays
 pub mod Together
 pub mod Counts
 pub mod CheckWords

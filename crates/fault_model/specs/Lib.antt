@@ -8,6 +8,7 @@ pub mod Exact
 pub mod Cost
 pub mod Comings
 pub mod Laws
+pub mod Stays
 pub mod Example
 pub mod SourceExample
 pub mod LaidOut

@@ -5,6 +5,7 @@ ghost use Rattle.fault_model.specs.SourceExample.{SourceFollows};
 ghost use Rattle.fault_model.specs.LaidOut.{PartsAreLaidOut};
 ghost use Rattle.fault_model.specs.Laws.{VerdictLooksBack, StateTellsFlips, InsideIsEmptied};
 ghost use Rattle.fault_model.specs.Laws.{AdmissibleHits, ErasesSource, CheckWordsAreLeast};
+ghost use Rattle.fault_model.specs.Stays.{StaysChangeAtTheTop};
 
 /// After each number of turns the verdict is that of all flips that came: admissible exactly where each was as it came,
 /// and else the first in time that wasn't is told. A plan without flips has an admissible verdict.
@@ -21,6 +22,13 @@ pub fn state_tells_flips()
 /// While somebody is inside a part of an object, it has no hits. To be inside means the same on the state as lists.
 pub fn inside_is_emptied()
     ensures { InsideIsEmptied }
+{}
+
+/// Where somebody is inside a part after a turn and nobody was before, the frame on top of the thread that took it is.
+/// Where nobody is any more, the frame that was on top was, and it is gone. An object keeps its class until it is
+/// destroyed, and the setting stays.
+pub fn stays_change_at_the_top()
+    ensures { StaysChangeAtTheTop }
 {}
 
 /// Where the flips so far were admissible, those of a part since somebody was last inside go together: of a single
