@@ -1,7 +1,7 @@
 //! Of which tree the text is written.
 
 /// Of which tree the canonical text is written.
-#[derive(Clone, Copy, Debug, PartialEq, Eq)]
+#[derive(Clone, Copy)]
 pub(crate) enum Form {
     /// The program as it was read.
     Parsed,
@@ -10,7 +10,7 @@ pub(crate) enum Form {
 }
 
 /// What a word of the command line asks for: a text, or that a program is read and nothing is written.
-#[derive(Clone, Copy, Debug, PartialEq, Eq)]
+#[derive(Clone, Copy)]
 pub(crate) enum Task {
     Read,
     Print(Form),

@@ -3,7 +3,7 @@
 use agxx_base::{Failed, Fault, Memory, Place, Refusal, Rule, Status};
 
 /// Why a text is not written.
-#[derive(Clone, Copy, Debug, PartialEq, Eq)]
+#[derive(Clone, Copy)]
 pub(crate) enum Stop {
     Refused(Refusal),
     Usage,
