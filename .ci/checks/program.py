@@ -34,11 +34,11 @@ def summary_fault(status, lines):
     return None
 
 
-def skip_without(check, *tools):
+def skip_without(check, *tools, built=PROGRAM):
     """Ends the check where the program or a tool is missing."""
     missing = [tool for tool in tools if shutil.which(tool) is None]
-    if not PROGRAM.exists():
-        missing.append(str(PROGRAM))
+    if not built.exists():
+        missing.append(str(built))
     if missing:
         print(f"{check}: skipped, no {missing[0]}", file=sys.stderr)
         sys.exit(0)
