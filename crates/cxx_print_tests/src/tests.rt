@@ -1,5 +1,5 @@
-//! What the calls do with the text of a program: it is written in pieces, made in memory and counted, and sinks may fail.
-//! How programs are spelled is told by the cases of `cases/spellings.txt`.
+//! What the calls do with the text of a program: it is written in pieces, made in memory and counted, and sinks may
+//! fail. How programs are spelled is told by the cases of `cases/spellings.txt`.
 
 use agxx_base::{Failed, MemSink, Mode, Names};
 use cxx_lex::lex_all;

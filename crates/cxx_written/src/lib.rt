@@ -1,5 +1,5 @@
-//! Which programs have a text that reads as them: what their names, numbers and strings must be. The crate has definitions
-//! and laws alone.
+//! Which programs have a text that reads as them: what their names, numbers and strings must be. The crate has
+//! definitions and laws alone.
 //!
 //! Read `specs/Written`.
 #![tactic(auto)]

@@ -1,5 +1,5 @@
-//! Laws of the normal form: it has nothing of places and numbers, and keeps what a program needs to have a text. The crate
-//! has definitions and laws alone.
+//! Laws of the normal form: it has nothing of places and numbers, and keeps what a program needs to have a text. The
+//! crate has definitions and laws alone.
 //!
 //! Read `specs/Same`, `Kept`.
 #![tactic(auto)]
