@@ -94,7 +94,7 @@ run_with lines n = planned_of (plan_with lines) begun n
 
 abbrev pub a_flip : ℕ → ℕ → ℕ → ℕ → ℕ → PlannedFlip
 a_flip number moment o word bit =
-    record { moment = moment; object = record { 0 = o }; word = word; bit = bit; number = number }
+    record { moment = moment; object = record { 0 = o }; word = word; bit = bit; number = number; waits = false }
 
 abbrev pub class_cell : ClassId
 class_cell = record { 0 = 0 }

@@ -1,5 +1,5 @@
 -- The plan that a text is.
-use Rattle.std.specs.Prelude.{ℕ, ◌+◌, ◌*◌, ◌^◌, ◌<◌, ◌==◌, if◌then◌else◌, List, [], ◌∷◌, ◌++◌, length, Option, Some, None}
+use Rattle.std.specs.Prelude.{ℕ, ◌+◌, ◌*◌, ◌^◌, ◌<◌, ◌==◌, if◌then◌else◌, List, [], ◌∷◌, ◌++◌, length, Option, Some, None, false}
 use Rattle.flip_plan.specs.declared.line.LineKind.{LineKind}
 use Rattle.flip_plan.specs.declared.line.LineKind.TheVariants as kind
 use Rattle.flip_plan.specs.declared.numbers.Item.{Item}
@@ -20,7 +20,7 @@ with_items runs (word ∷ words) = with_items (with_item runs (item_of word.text
 
 -- the flip of a line, and its number among these lines
 abbrev pub flip_of : ℕ → List Word → PlannedFlip
-flip_of number words = record { moment = number_at words 0; object = record { 0 = number_at words 1 }; word = number_at words 2; bit = number_at words 3; number = number }
+flip_of number words = record { moment = number_at words 0; object = record { 0 = number_at words 1 }; word = number_at words 2; bit = number_at words 3; number = number; waits = false }
 
 abbrev pub with_line_by : LineKind → PlanMeaning → List Word → PlanMeaning
 with_line_by kind.Limit plan words = record plan { limit = number_at words 0 }

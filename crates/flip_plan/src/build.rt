@@ -41,6 +41,7 @@ fn flip_of(number: u32, words: &[Word]) -> PlannedFlip
         word: number_at(words, 2),
         bit: number_at(words, 3),
         number,
+        waits: false,
     }
 }
 

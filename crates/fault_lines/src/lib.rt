@@ -1,0 +1,24 @@
+//! Runs by plans without looks through all lines: where some lines alone are gone through, which parts have been hit as
+//! a set, and which waiting lines a turn may wake. The specs are read in this order: `Lists`, `Lines`, `Marks`, `Wakes`.
+#![tactic(auto)]
+
+ghost use Rattle.fault_lines.specs.Lines.{SomeLinesAreEnough};
+ghost use Rattle.fault_lines.specs.Marks.{SetsTellHits};
+ghost use Rattle.fault_lines.specs.Wakes.{LinesAreWoken};
+
+/// Where the lines that are left out don't fall, to go through the others leaves what it leaves to go through all.
+pub fn some_lines_are_enough()
+    ensures { SomeLinesAreEnough }
+{}
+
+/// Whether a flip is admissible, and what flips and turns leave, by the set of hit parts: of a turn it loses at most
+/// the parts that the frame that runs behind it is inside of.
+pub fn sets_tell_hits()
+    ensures { SetsTellHits }
+{}
+
+/// A turn makes admissible only what is on an object that it makes, or on a part that the frame that ran was inside
+/// of, where that frame is gone.
+pub fn lines_are_woken()
+    ensures { LinesAreWoken }
+{}
