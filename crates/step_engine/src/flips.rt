@@ -119,6 +119,20 @@ impl<'p, H: Heap> Engine<'p, H> {
         }
     }
 
+    /// Whether a flip inverts this bit: where the object is live, has such a word and the bit is one of it.
+    #[tactic(auto, unfolding(step_machine::specs::Flips::flipped))]
+    pub fn inverts(&self, object: ObjectId, word: u32, bit: u32) -> bool
+        ensures { result ≡ (spec.flipped object.0 word bit self.now).1 }
+    {
+        let Some(_) = self.world.word(object, word) else {
+            return false;
+        };
+        let Some(class) = self.world.class(object) else {
+            return false;
+        };
+        bit < width_of(self.setting, class, word)
+    }
+
     /// Inverts a bit where the object is live, has such a word and the bit is one of it, and tells whether it did.
     /// After `Memory` the run is lost.
     #[tactic(auto, unfolding(step_machine::specs::Flips::flipped))]
