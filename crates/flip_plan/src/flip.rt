@@ -14,4 +14,6 @@ pub struct PlannedFlip {
     pub bit: u32,
     /// The number of its line among the lines of flips, counted from 1.
     pub number: u32,
+    /// Whether it waits, from its moment on, until it is admissible.
+    pub waits: bool,
 }
