@@ -1,5 +1,5 @@
 -- The lines `flip` and `free` of a plan.
-use Rattle.std.specs.Prelude.{ℕ, List, map}
+use Rattle.std.specs.Prelude.{ℕ, if◌then◌else◌, List, map}
 use Rattle.flip_plan.specs.declared.flip.PlannedFlip.{PlannedFlip}
 use Rattle.flip_plan.specs.Plans.{PlanMeaning, turn_of}
 
@@ -19,9 +19,13 @@ pub record FaultPlan : Type 0 where
   pub turn : ℕ → ℕ
   pub lines : List PlanLine
 
+-- the line that gave a flip
+abbrev pub line_of : PlannedFlip → PlanLine
+line_of f = if f.waits then free f else flip f
+
 -- the lines of a plan that was read
 abbrev pub lines_of : PlanMeaning → List PlanLine
-lines_of plan = map flip plan.flips
+lines_of plan = map line_of plan.flips
 
 abbrev pub fault_plan : PlanMeaning → FaultPlan
 fault_plan plan = record { limit = plan.limit; turn = turn_of plan; lines = lines_of plan }
