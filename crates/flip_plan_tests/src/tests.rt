@@ -3,6 +3,7 @@
 use agxx_base::{Fault, LARGEST_TEXT, Text};
 use flip_plan::{Plan, default_plan, read_plan};
 use std::alloc::Global;
+use std::process::Abort;
 use std::test::Fail;
 
 fn read(alloc: Global, text: &[u8]) -> Result<Result<Plan, Fault>, Fail> {
@@ -27,9 +28,9 @@ fn refused(alloc: Global, text: &[u8]) -> Result<String, Fail> {
     }
 }
 
-fn refuses(rt: HostRuntime, table: &[(&[u8], &str)]) -> Result<(), Fail> {
+fn refuses(rt: &impl Abort, alloc: Global, table: &[(&[u8], &str)]) -> Result<(), Fail> {
     for (text, expected) in table {
-        let found = refused(rt.alloc(), text)?;
+        let found = refused(alloc, text)?;
         assert_eq!(rt; found.as_str(), *expected);
     }
     Ok(())
@@ -49,7 +50,7 @@ fn refusals_stand_at_their_places(rt: HostRuntime) -> Result<(), Fail> {
         (b"limit 1\nflip 1 2 3\r", "F2@2:12"),
         (b"limit 1\nflip 1 2 3 64", "F3@2:12"),
     ];
-    refuses(rt, table)
+    refuses(&rt, rt.alloc(), table)
 }
 
 #[test]
@@ -65,7 +66,7 @@ fn free_lines_have_the_rules_of_flip_lines(rt: HostRuntime) -> Result<(), Fail> 
         (b"limit 1\nfree 1 2 65536 4", "F3@2:10"),
         (b"limit 1\nfree 1 2 3 64", "F3@2:12"),
     ];
-    refuses(rt, table)
+    refuses(&rt, rt.alloc(), table)
 }
 
 /// A plan with so many pairs of a `flip` line and a `free` line, from its second line on, and one line more.
@@ -94,8 +95,7 @@ fn flip_lines_and_free_lines_have_one_total(rt: HostRuntime) -> Result<(), Fail>
 
 #[test]
 fn flip_lines_and_free_lines_are_numbered_together(rt: HostRuntime) -> Result<(), Fail> {
-    let text =
-        b"limit 9\nfree 6 0 1 31\nturns 0\nflip 2 9 8 7\n#\nfree 2 5 4 3\nflip 0 0 0 0";
+    let text = b"limit 9\nfree 6 0 1 31\nturns 0\nflip 2 9 8 7\n#\nfree 2 5 4 3\nflip 0 0 0 0";
     let Ok(plan) = read(rt.alloc(), text)? else {
         return Err("refused")?;
     };
