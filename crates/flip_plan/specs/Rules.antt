@@ -13,7 +13,7 @@ use Rattle.flip_plan.specs.Texts.{Word, Line, lines_of}
 use Rattle.flip_plan.specs.Numbers.{number, item_of}
 use Rattle.flip_plan.specs.Kinds.{kind_of, ruled_as, first_column, behind}
 
--- The rules of a line are those of a kind of lines, of `flip` and `free` lines the same.
+-- A line has the rules of its kind, and a `free` line those of a `flip` line.
 
 -- a rule is violated in this column of the line
 abbrev pub refusal : Rule → Line → ℕ → Refusal
