@@ -96,6 +96,9 @@ abbrev pub a_flip : ℕ → ℕ → ℕ → ℕ → ℕ → PlannedFlip
 a_flip number moment o word bit =
     record { moment = moment; object = record { 0 = o }; word = word; bit = bit; number = number; waits = false }
 
+abbrev pub a_free : ℕ → ℕ → ℕ → ℕ → ℕ → PlanLine
+a_free number moment o word bit = free (record (a_flip number moment o word bit) { waits = true })
+
 abbrev pub class_cell : ClassId
 class_cell = record { 0 = 0 }
 
@@ -190,7 +193,7 @@ Comes lines flips verdict = summary (run_with lines 402) ≡ record {
 
 -- both in one part
 abbrev pub two_free : List PlanLine
-two_free = free (a_flip 1 0 0 1 3) ∷ free (a_flip 2 0 0 2 4) ∷ []
+two_free = a_free 1 0 0 1 3 ∷ a_free 2 0 0 2 4 ∷ []
 
 pub record WholeRuns : Type 0 where
   -- one flip between two stays

@@ -3,3 +3,4 @@ pub mod Items
 pub mod Sums
 pub mod Digits
 pub mod Rooms
+pub mod Numbered

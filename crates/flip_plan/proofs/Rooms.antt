@@ -11,7 +11,7 @@ use Rattle.flip_plan.specs.declared.pieces.Separator.TheVariants as separator
 use Rattle.flip_plan.specs.Kinds.{kind_of, behind}
 use Rattle.flip_plan.specs.Numbers.{is_digit, value, number, once, times, item_in, item_of}
 use Rattle.flip_plan.specs.Plans.{Run, PlanMeaning, total, one_each}
-use Rattle.flip_plan.specs.Reading.{with_item, with_items, with_line, with_line_by, with_lines, flip_of, nothing_planned, words_in, HasRoom, HasRoomFor}
+use Rattle.flip_plan.specs.Reading.{with_item, with_items, with_line, with_line_by, with_lines, with_flip, flip_of, nothing_planned, words_in, HasRoom, HasRoomFor}
 use Rattle.flip_plan.specs.Texts.{Word, Line, parts, with_word, words_from, words_of, lines_from, lines_of, span}
 use Rattle.flip_plan.proofs.Parts.{span_parts}
 
@@ -107,6 +107,13 @@ behind_few (word ∷ words) = omega arith
 less-room : (runs : List Run) (items fewer : ℕ) → fewer ≤ items → HasRoom runs items → HasRoom runs fewer
 less-room runs items fewer l room = omega (arith, l, room)
 
+room-behind-flip : (waits : Bool) (plan : PlanMeaning) (line : Line) (lines : List Line) → HasRoomFor plan (line ∷ lines) → HasRoomFor (with_flip waits plan (behind line.words)) lines
+room-behind-flip waits plan line lines room = record {
+  turns = omega (arith, room.turns);
+  cycle = omega (arith, room.cycle);
+  flips = omega (arith, room.flips, length-append plan.flips (flip_of (length plan.flips + 1) waits (behind line.words) ∷ []));
+}
+
 room-by : (k : LineKind) (plan : PlanMeaning) (line : Line) (lines : List Line) → HasRoomFor plan (line ∷ lines) → HasRoomFor (with_line_by k plan (behind line.words)) lines
 room-by kind.Limit plan line lines room = record { turns = omega (arith, room.turns); cycle = omega (arith, room.cycle); flips = omega (arith, room.flips) }
 room-by kind.Turns plan line lines room = record {
@@ -119,7 +126,8 @@ room-by kind.Cycle plan line lines room = record {
   cycle = room-behind-items plan.cycle (behind line.words) (words_in lines) (omega (arith, room.cycle, behind_few line.words));
   flips = omega (arith, room.flips);
 }
-room-by kind.Flip plan line lines room = record { turns = omega (arith, room.turns); cycle = omega (arith, room.cycle); flips = omega (arith, room.flips, length-append plan.flips (flip_of (length plan.flips + 1) (behind line.words) ∷ [])) }
+room-by kind.Flip plan line lines room = room-behind-flip false plan line lines room
+room-by kind.Free plan line lines room = room-behind-flip true plan line lines room
 room-by kind.Passed plan line lines room = record { turns = omega (arith, room.turns); cycle = omega (arith, room.cycle); flips = omega (arith, room.flips) }
 room-by kind.Unknown plan line lines room = record { turns = omega (arith, room.turns); cycle = omega (arith, room.cycle); flips = omega (arith, room.flips) }
 

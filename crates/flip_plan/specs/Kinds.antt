@@ -10,7 +10,8 @@ kind_of_word text =
     if bytes_eq text (codes "limit") then kind.Limit
     else (if bytes_eq text (codes "turns") then kind.Turns
     else (if bytes_eq text (codes "cycle") then kind.Cycle
-    else (if bytes_eq text (codes "flip") then kind.Flip else kind.Unknown)))
+    else (if bytes_eq text (codes "flip") then kind.Flip
+    else (if bytes_eq text (codes "free") then kind.Free else kind.Unknown))))
 
 abbrev pub is_comment : List ℕ → Bool
 is_comment [] = false
@@ -23,6 +24,11 @@ kind_of_words (word ∷ words) = if is_comment word.text then kind.Passed else k
 
 abbrev pub kind_of : Line → LineKind
 kind_of line = kind_of_words line.words
+
+-- the kind whose rules a line has: a `free` line has those of a `flip` line
+abbrev pub ruled_as : LineKind → LineKind
+ruled_as kind.Free = kind.Flip
+ruled_as k = k
 
 -- the column of the first word
 abbrev pub first_column : List Word → ℕ

@@ -1,5 +1,5 @@
 -- Plans, and whose turn it is.
-use Rattle.std.specs.Prelude.{ℕ, ◌+◌, ◌-◌, ◌%◌, ◌==◌, nat_lt, if◌then◌else◌, List, [], ◌∷◌, map, Option, Some, None, unwrap_or}
+use Rattle.std.specs.Prelude.{◌≡◌, ℕ, suc, ◌+◌, ◌-◌, ◌%◌, ◌==◌, nat_lt, if◌then◌else◌, List, [], ◌∷◌, map, Option, Some, None, unwrap_or}
 use Rattle.flip_plan.specs.declared.flip.PlannedFlip.{PlannedFlip}
 
 -- turns of one thread, one behind the other
@@ -14,6 +14,11 @@ pub record PlanMeaning : Type 0 where
   pub turns : List Run
   pub cycle : List Run
   pub flips : List PlannedFlip
+
+-- Flips have the numbers from this one on, in order. Those of a plan have them from 1 on.
+abbrev pub IsNumbered : ℕ → List PlannedFlip → Type 0
+IsNumbered n [] = Unit {0}
+IsNumbered n (f ∷ fs) = (f.number ≡ n) × IsNumbered (suc n) fs
 
 abbrev pub total : List Run → ℕ
 total [] = 0

@@ -1,5 +1,5 @@
 -- The plan that a text is.
-use Rattle.std.specs.Prelude.{ℕ, ◌+◌, ◌*◌, ◌^◌, ◌<◌, ◌==◌, if◌then◌else◌, List, [], ◌∷◌, ◌++◌, length, Option, Some, None, false}
+use Rattle.std.specs.Prelude.{ℕ, ◌+◌, ◌*◌, ◌^◌, ◌<◌, ◌==◌, Bool, true, false, if◌then◌else◌, List, [], ◌∷◌, ◌++◌, length, Option, Some, None}
 use Rattle.flip_plan.specs.declared.line.LineKind.{LineKind}
 use Rattle.flip_plan.specs.declared.line.LineKind.TheVariants as kind
 use Rattle.flip_plan.specs.declared.numbers.Item.{Item}
@@ -18,15 +18,20 @@ abbrev pub with_items : List Run → List Word → List Run
 with_items runs [] = runs
 with_items runs (word ∷ words) = with_items (with_item runs (item_of word.text)) words
 
--- the flip of a line, and its number among these lines
-abbrev pub flip_of : ℕ → List Word → PlannedFlip
-flip_of number words = record { moment = number_at words 0; object = record { 0 = number_at words 1 }; word = number_at words 2; bit = number_at words 3; number = number; waits = false }
+-- the flip of a line, its number among these lines, and whether it waits
+abbrev pub flip_of : ℕ → Bool → List Word → PlannedFlip
+flip_of number waits words = record { moment = number_at words 0; object = record { 0 = number_at words 1 }; word = number_at words 2; bit = number_at words 3; number = number; waits = waits }
+
+-- `flip` and `free` lines are numbered together
+abbrev pub with_flip : Bool → PlanMeaning → List Word → PlanMeaning
+with_flip waits plan words = record plan { flips = plan.flips ++ flip_of (length plan.flips + 1) waits words ∷ [] }
 
 abbrev pub with_line_by : LineKind → PlanMeaning → List Word → PlanMeaning
 with_line_by kind.Limit plan words = record plan { limit = number_at words 0 }
 with_line_by kind.Turns plan words = record plan { turns = with_items plan.turns words }
 with_line_by kind.Cycle plan words = record plan { cycle = with_items plan.cycle words }
-with_line_by kind.Flip plan words = record plan { flips = plan.flips ++ flip_of (length plan.flips + 1) words ∷ [] }
+with_line_by kind.Flip plan words = with_flip false plan words
+with_line_by kind.Free plan words = with_flip true plan words
 with_line_by _ plan words = plan
 
 -- the plan with what a line gives

@@ -11,13 +11,15 @@ use Rattle.flip_plan.specs.declared.numbers.Item.{Item}
 use Rattle.flip_plan.specs.declared.seen.Seen.{Seen}
 use Rattle.flip_plan.specs.Texts.{Word, Line, lines_of}
 use Rattle.flip_plan.specs.Numbers.{number, item_of}
-use Rattle.flip_plan.specs.Kinds.{kind_of, first_column, behind}
+use Rattle.flip_plan.specs.Kinds.{kind_of, ruled_as, first_column, behind}
+
+-- A line has the rules of its kind, and a `free` line those of a `flip` line.
 
 -- a rule is violated in this column of the line
 abbrev pub refusal : Rule → Line → ℕ → Refusal
 refusal violated line column = record { rule = violated; place = record { file = line.file; line = line.number; column = column } }
 
--- ---- F1: a first word that is none of `limit`, `turns`, `cycle`, `flip`, or a word behind the numbers of a line
+-- ---- F1: a first word that is none of `limit`, `turns`, `cycle`, `flip`, `free`, or a word behind the numbers of a line
 
 abbrev pub at_each : Line → List Word → List Refusal
 at_each line [] = []
@@ -30,7 +32,7 @@ strange_by kind.Flip line = at_each line (drop 4 (behind line.words))
 strange_by _ line = []
 
 unfoldable pub strange : Line → List Refusal
-strange line = strange_by (kind_of line) line
+strange line = strange_by (ruled_as (kind_of line)) line
 
 -- ---- F2: a malformed word, or too few words, which is told at the line's end
 
@@ -65,9 +67,9 @@ malformed_by k line =
     else malformed_in k line (wanted k (behind line.words))
 
 unfoldable pub malformed : Line → List Refusal
-malformed line = malformed_by (kind_of line) line
+malformed line = malformed_by (ruled_as (kind_of line)) line
 
--- ---- F3: a number above its limit, or turns or flip lines past a total
+-- ---- F3: a number above its limit, or turns or lines of flips past a total
 
 -- A limit and the moment of a flip are numbers of turns; then come object, word and bit of a flip.
 abbrev pub greatest : LineKind → ℕ → ℕ
@@ -127,7 +129,7 @@ large_by kind.Cycle seen line = large_items line seen.cycle_room (behind line.wo
 large_by _ seen line = []
 
 unfoldable pub large : Seen → Line → List Refusal
-large seen line = large_by (kind_of line) seen line
+large seen line = large_by (ruled_as (kind_of line)) seen line
 
 -- ---- F4: a second `limit` or `cycle`
 
@@ -137,7 +139,7 @@ repeated_by kind.Cycle seen line = if seen.cycle then refusal rule.F4 line (firs
 repeated_by _ seen line = []
 
 unfoldable pub repeated : Seen → Line → List Refusal
-repeated seen line = repeated_by (kind_of line) seen line
+repeated seen line = repeated_by (ruled_as (kind_of line)) seen line
 
 -- ---- F5: no `limit`
 
@@ -163,7 +165,7 @@ after_by _ seen line = seen
 
 -- what is known behind a line
 unfoldable pub after : Seen → Line → Seen
-after seen line = after_by (kind_of line) seen line
+after seen line = after_by (ruled_as (kind_of line)) seen line
 
 unfoldable pub violations_in : Seen → Line → List Refusal
 violations_in seen line = strange line ++ (malformed line ++ (large seen line ++ repeated seen line))

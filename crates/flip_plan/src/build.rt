@@ -32,8 +32,8 @@ pub(crate) fn add_items(runs: &mut Runs, words: &[Word]) -> Result<(), Memory>
     Ok(())
 }
 
-fn flip_of(number: u32, words: &[Word]) -> PlannedFlip
-    ensures { result ≡ spec.flip_of number words.now }
+fn flip_of(number: u32, waits: bool, words: &[Word]) -> PlannedFlip
+    ensures { result ≡ spec.flip_of number waits words.now }
 {
     PlannedFlip {
         moment: number_at(words, 0) as u64,
@@ -41,17 +41,25 @@ fn flip_of(number: u32, words: &[Word]) -> PlannedFlip
         word: number_at(words, 2),
         bit: number_at(words, 3),
         number,
-        waits: false,
+        waits,
     }
 }
 
 /// Appends the flip of a line.
-pub(crate) fn add_flip(flips: &mut ListOf<PlannedFlip>, words: &[Word]) -> Result<(), Memory>
-    requires { length flips.old + 1 < 2 ^ 32 }
-    ensures { OnOk result (flips.new ≡ flips.old ++ spec.flip_of (length flips.old + 1) words.now ∷ []) }
+#[tactic(auto, using(crate::proofs::Numbered::numbered_push))]
+pub(crate) fn add_flip(
+    flips: &mut ListOf<PlannedFlip>,
+    waits: bool,
+    words: &[Word],
+) -> Result<(), Memory>
+    requires room { length flips.old + 1 < 2 ^ 32 }
+    requires numbered { plans.IsNumbered 1 flips.old }
+    ensures added { OnOk result (flips.new ≡
+        flips.old ++ spec.flip_of (length flips.old + 1) waits words.now ∷ []) }
+    ensures numbered { plans.IsNumbered 1 flips.new }
 {
     let number = flips.len() as u32 + 1;
-    flips.push(flip_of(number, words))
+    flips.push(flip_of(number, waits, words))
 }
 
 fn one_each(alloc: Global, threads: &[u32]) -> Result<Runs, Memory>

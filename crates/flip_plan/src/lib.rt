@@ -10,7 +10,9 @@
 //! - `cycle T..`: the turns that then come again and again, at most 1,000,000. At most one line; without it they are
 //!   `0 1 2 3 4 5 6 7`.
 //! - `flip I O W B`: before turn I (0 to 99,999,999) bit B (0 to 63) of word W (0 to 65,535) of object O (0 to
-//!   65,535) flips. At most 100,000 lines.
+//!   65,535) flips.
+//! - `free I O W B`: this bit flips before the first turn, from turn I on, before which its flip is admissible. The
+//!   lines `flip` and `free` are numbered together, and there are at most 100,000 of them.
 #![tactic(auto)]
 
 mod build;

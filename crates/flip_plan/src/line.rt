@@ -17,6 +17,7 @@ pub(crate) enum LineKind {
     Turns,
     Cycle,
     Flip,
+    Free,
     Unknown,
 }
 
@@ -89,8 +90,20 @@ fn kind_of_word(text: &[u8]) -> LineKind
         LineKind::Cycle
     } else if text == b"flip".as_slice() {
         LineKind::Flip
+    } else if text == b"free".as_slice() {
+        LineKind::Free
     } else {
         LineKind::Unknown
+    }
+}
+
+/// The kind whose rules a line has: a `free` line has those of a `flip` line.
+fn ruled_as(kind: LineKind) -> LineKind
+    ensures { result ≡ kinds.ruled_as kind }
+{
+    match kind {
+        LineKind::Free => LineKind::Flip,
+        _ => kind,
     }
 }
 
@@ -175,6 +188,13 @@ impl<'t> Line<'t> {
                 }
             }
         }
+    }
+
+    /// The kind whose rules it has.
+    pub(crate) fn ruled(&self) -> LineKind
+        ensures { result ≡ kinds.ruled_as (kinds.kind_of self.now) }
+    {
+        ruled_as(self.kind())
     }
 
     /// The column of its first word.

@@ -2,7 +2,7 @@
 
 ghost use Rattle.std.specs.Prelude.{◌≡◌, ◌∷◌, [], IfOk, OnOk};
 ghost use Rattle.flip_plan.specs.Plans as spec;
-ghost use Rattle.flip_plan.specs.Plans.{turn_of};
+ghost use Rattle.flip_plan.specs.Plans.{turn_of, IsNumbered};
 ghost use Rattle.flip_plan.specs.Reading as reading;
 
 use crate::build::{add_flip, add_items, default_cycle};
@@ -24,11 +24,13 @@ pub struct Plan {
 }
 
 impl Model for Plan {
-    ghost use Rattle.flip_plan.specs.Plans.{PlanMeaning};
+    ghost use Rattle.flip_plan.specs.Plans.{PlanMeaning, IsNumbered};
 
     ghost Value = { PlanMeaning };
 
     ghost view = { λ p. record { limit = p.limit; turns = p.turns; cycle = p.cycle; flips = p.flips } };
+
+    ghost invariant = { λ p. IsNumbered 1 p.flips };
 }
 
 fn cycle_at(cycle: &Runs, index: u64) -> u32
@@ -70,7 +72,8 @@ impl Plan {
             }
             LineKind::Turns => add_items(&mut self.turns, line.behind()),
             LineKind::Cycle => add_items(&mut self.cycle, line.behind()),
-            LineKind::Flip => add_flip(&mut self.flips, line.behind()),
+            LineKind::Flip => add_flip(&mut self.flips, false, line.behind()),
+            LineKind::Free => add_flip(&mut self.flips, true, line.behind()),
             _ => Ok(()),
         }
     }
@@ -105,7 +108,8 @@ impl Plan {
 
     /// The flips, in the order of their lines.
     pub fn flips(&self) -> &[PlannedFlip]
-        ensures { result.now ≡ self.now.flips }
+        ensures flips { result.now ≡ self.now.flips }
+        ensures numbered { IsNumbered 1 self.now.flips }
     {
         self.flips.as_slice()
     }

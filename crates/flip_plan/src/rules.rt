@@ -59,7 +59,7 @@ fn at_each(found: Option<Refusal>, line: &Line, words: &[Word]) -> Option<Refusa
 fn strange(found: Option<Refusal>, line: &Line) -> Option<Refusal>
     ensures { result ≡ least_from found (spec.strange line.now) }
 {
-    match line.kind() {
+    match line.ruled() {
         LineKind::Unknown => nearer(found, refusal(Rule::F1, line, line.first_column())),
         LineKind::Limit => at_each(found, line, past(line.behind(), 1)),
         LineKind::Flip => at_each(found, line, past(line.behind(), 4)),
@@ -123,7 +123,7 @@ fn malformed_in(
 fn malformed(found: Option<Refusal>, line: &Line) -> Option<Refusal>
     ensures { result ≡ least_from found (spec.malformed line.now) }
 {
-    let kind = line.kind();
+    let kind = line.ruled();
     let words = line.behind();
     let read = wanted(kind, words);
     if words.len() < fewest(kind) {
@@ -249,7 +249,7 @@ fn large_items(found: Option<Refusal>, line: &Line, room: u32, words: &[Word]) -
     least
 }
 
-/// A flip line.
+/// A line of a flip.
 fn large_flip(found: Option<Refusal>, seen: Seen, line: &Line) -> Option<Refusal>
     ensures { result ≡ least_from found (spec.large_by LineKind.Flip seen line.now) }
 {
@@ -267,7 +267,7 @@ fn large_flip(found: Option<Refusal>, seen: Seen, line: &Line) -> Option<Refusal
 fn large(found: Option<Refusal>, seen: Seen, line: &Line) -> Option<Refusal>
     ensures { result ≡ least_from found (spec.large seen line.now) }
 {
-    match line.kind() {
+    match line.ruled() {
         LineKind::Limit => large_numbers(found, LineKind::Limit, line, front(line.behind(), 1)),
         LineKind::Flip => large_flip(found, seen, line),
         LineKind::Turns => large_items(found, line, seen.turn_room, line.behind()),
@@ -281,7 +281,7 @@ fn large(found: Option<Refusal>, seen: Seen, line: &Line) -> Option<Refusal>
 fn repeated(found: Option<Refusal>, seen: Seen, line: &Line) -> Option<Refusal>
     ensures { result ≡ least_from found (spec.repeated seen line.now) }
 {
-    match line.kind() {
+    match line.ruled() {
         LineKind::Limit if seen.limit => nearer(
             found,
             refusal(Rule::F4, line, line.first_column()),
@@ -320,7 +320,7 @@ fn room_behind(room: u32, words: &[Word]) -> u32
 pub(crate) fn after(seen: Seen, line: &Line) -> Seen
     ensures { result ≡ spec.after seen line.now }
 {
-    match line.kind() {
+    match line.ruled() {
         LineKind::Limit => Seen {
             limit: true,
             ..seen

@@ -3,6 +3,7 @@
 use agxx_base::{Fault, LARGEST_TEXT, Text};
 use flip_plan::{Plan, default_plan, read_plan};
 use std::alloc::Global;
+use std::process::Abort;
 use std::test::Fail;
 
 fn read(alloc: Global, text: &[u8]) -> Result<Result<Plan, Fault>, Fail> {
@@ -27,6 +28,14 @@ fn refused(alloc: Global, text: &[u8]) -> Result<String, Fail> {
     }
 }
 
+fn refuses(rt: &impl Abort, alloc: Global, table: &[(&[u8], &str)]) -> Result<(), Fail> {
+    for (text, expected) in table {
+        let found = refused(alloc, text)?;
+        assert_eq!(rt; found.as_str(), *expected);
+    }
+    Ok(())
+}
+
 #[test]
 fn refusals_stand_at_their_places(rt: HostRuntime) -> Result<(), Fail> {
     let table: &[(&[u8], &str)] = &[
@@ -35,15 +44,64 @@ fn refusals_stand_at_their_places(rt: HostRuntime) -> Result<(), Fail> {
         (b"limit", "F2@1:6"),
         (b"limit 100000001", "F3@1:7"),
         (b"limit 1\nlimit 1", "F4@2:1"),
-        (b"limit 1\n free 1 2 3 4", "F1@2:2"),
+        (b"limit 1\n freed 1 2 3 4", "F1@2:2"),
         (b"limit 1\nturns 3 4*0", "F2@2:9"),
         (b"limit 1\ncycle 1*999999 7 8", "F3@2:18"),
         (b"limit 1\nflip 1 2 3\r", "F2@2:12"),
         (b"limit 1\nflip 1 2 3 64", "F3@2:12"),
     ];
-    for (text, expected) in table {
-        let found = refused(rt.alloc(), text)?;
-        assert_eq!(rt; found.as_str(), *expected);
+    refuses(&rt, rt.alloc(), table)
+}
+
+#[test]
+fn free_lines_have_the_rules_of_flip_lines(rt: HostRuntime) -> Result<(), Fail> {
+    let table: &[(&[u8], &str)] = &[
+        (b"limit 1\nfree 99999999 65535 65535 63", "accepted"),
+        (b"limit 1\nfree 1 2 3 4 5", "F1@2:14"),
+        (b"limit 1\nfree", "F2@2:5"),
+        (b"limit 1\nfree 1 2 3", "F2@2:11"),
+        (b"limit 1\nfree 1 2*3 3 4", "F2@2:8"),
+        (b"limit 1\nfree 100000000 2 3 4", "F3@2:6"),
+        (b"limit 1\nfree 1 65536 3 4", "F3@2:8"),
+        (b"limit 1\nfree 1 2 65536 4", "F3@2:10"),
+        (b"limit 1\nfree 1 2 3 64", "F3@2:12"),
+    ];
+    refuses(&rt, rt.alloc(), table)
+}
+
+/// A plan with so many pairs of a `flip` line and a `free` line, from its second line on, and one line more.
+fn with_pairs(alloc: Global, pairs: usize, last: &str) -> Result<String, Fail> {
+    let mut text = format!(in alloc; "limit 1\n")?;
+    for _ in 0..pairs {
+        text.push_str("flip 0 0 0 0\nfree 0 0 0 0\n")?;
+    }
+    text.push_str(last)?;
+    Ok(text)
+}
+
+#[test]
+fn flip_lines_and_free_lines_have_one_total(rt: HostRuntime) -> Result<(), Fail> {
+    let text = with_pairs(rt.alloc(), 50_000, " free 0 0 0 0")?;
+    let found = refused(rt.alloc(), text.as_bytes())?;
+    assert_eq!(rt; found.as_str(), "F3@100002:2");
+    Ok(())
+}
+
+#[test]
+fn flip_lines_and_free_lines_are_numbered_together(rt: HostRuntime) -> Result<(), Fail> {
+    let text = b"limit 9\nfree 6 0 1 31\nturns 0\nflip 2 9 8 7\n#\nfree 2 5 4 3\nflip 0 0 0 0";
+    let Ok(plan) = read(rt.alloc(), text)? else {
+        return Err("refused")?;
+    };
+    let expected: &[(u32, bool, u64, u32)] = &[
+        (1, true, 6, 31),
+        (2, false, 2, 7),
+        (3, true, 2, 3),
+        (4, false, 0, 0),
+    ];
+    assert_eq!(rt; plan.flips().len(), expected.len());
+    for (flip, line) in plan.flips().iter().zip(expected) {
+        assert!(rt; (flip.number, flip.waits, flip.moment, flip.bit) == *line);
     }
     Ok(())
 }
@@ -69,8 +127,9 @@ fn a_plan_has_its_turns_and_flips(rt: HostRuntime) -> Result<(), Fail> {
             first.object.0,
             first.word,
             first.bit,
-            first.number
-        ) == (6, 0, 1, 31, 1)
+            first.number,
+            first.waits
+        ) == (6, 0, 1, 31, 1, false)
     );
     assert!(rt;
         (
@@ -78,8 +137,9 @@ fn a_plan_has_its_turns_and_flips(rt: HostRuntime) -> Result<(), Fail> {
             second.object.0,
             second.word,
             second.bit,
-            second.number
-        ) == (2, 9, 8, 7, 2)
+            second.number,
+            second.waits
+        ) == (2, 9, 8, 7, 2, false)
     );
     Ok(())
 }
