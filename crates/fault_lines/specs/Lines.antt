@@ -4,6 +4,7 @@ use Rattle.agxx_base.specs.declared.ids.ClassId.{ClassId}
 use Rattle.cxx_arith.specs.Kinds.{width}
 use Rattle.flip_plan.specs.declared.flip.PlannedFlip.{PlannedFlip}
 use Rattle.step_machine.specs.Total.{Total}
+use Rattle.step_machine.specs.Flips.{flipped_of}
 use Rattle.fault_model.specs.Parts.{PartWord}
 use Rattle.fault_model.specs.PlanLines.{PlanLine, flip_of, line_of}
 use Rattle.fault_model.specs.Admissible.{Hits, is_admissible, part_word_of}
@@ -44,6 +45,10 @@ pub record IsOn (m : Total) (class : ClassId) (f : PlannedFlip) : Type 0 where
   pub of_class : word.class ≡ class
   pub is_bit : nat_lt f.bit (width word.word.kind) ≡ true
 
+-- where a flip is admissible, its word is there, and so its bit is inverted
+abbrev pub Inverts : Total → PlannedFlip → Type 0
+Inverts m f = (hits : Hits) → is_admissible m hits f ≡ true → (flipped_of f.object.0 f.word f.bit m).1 ≡ true
+
 -- Another line, before this one, waits for a flip in the same part of the same object.
 pub record IsCovered (i : ℕ) (m : Total) (on : List PlannedFlip) (f : PlannedFlip) : Type 0 where
   pub waits : f.waits ≡ true
@@ -52,6 +57,7 @@ pub record IsCovered (i : ℕ) (m : Total) (on : List PlannedFlip) (f : PlannedF
   pub first_waits : first.waits ≡ true
   pub in_force : first.moment ≤ i
   pub before : first.number < f.number
+  pub inverts : Inverts m first
   pub object : first.object.0 ≡ f.object.0
   pub class : ClassId
   pub first_on : IsOn m class first
