@@ -71,6 +71,8 @@ pub record AreReady (n : ℕ) (m : Total) (hits : Hits) (ahead : List PlannedFli
   pub left : IsLeftOf n ahead q.left
   pub due_order : AreInOrder q.due
   pub due_in : (f : PlannedFlip) → IsIn q.due f → IsIn ahead f × (f.moment < n)
+  -- what is due doesn't wait
+  pub apart : (f : PlannedFlip) → IsIn q.due f → Waits q.waiting f → ⊥
   pub waiting : AreWaiting n m ahead q.waiting
   pub past : (f : PlannedFlip) → IsIn ahead f → f.moment < n
       → (f.waits ≡ true)
@@ -130,6 +132,7 @@ pub record Takes (m : Machine) (t : ℕ) (q after : Queues) : Type 0 where
   pub left : after.left ≡ q.left
   pub due : after.due ≡ with_all taken q.due
   pub waited : (f : PlannedFlip) → IsIn taken f → Waits q.waiting f
+  pub gone : (f : PlannedFlip) → IsIn taken f → Waits after.waiting f → ⊥
   pub fewer : (o : ℕ) (c : Option ClassId) (n : ℕ) (f : PlannedFlip) → waits after.waiting o c n ≡ Some f → waits q.waiting o c n ≡ Some f
   pub rest : (o : ℕ) (c : Option ClassId) (n : ℕ) (f : PlannedFlip) → waits q.waiting o c n ≡ Some f
       → (waits after.waiting o c n ≡ Some f) ⊎ IsIn taken f

@@ -4,16 +4,15 @@ use Rattle.agxx_base.specs.declared.ids.ClassId.{ClassId}
 use Rattle.cxx_arith.specs.Kinds.{width}
 use Rattle.flip_plan.specs.declared.flip.PlannedFlip.{PlannedFlip}
 use Rattle.step_machine.specs.Setting.{Setting, class_of_function, is_of}
-use Rattle.step_machine.specs.Frame.{Frame, is_object}
+use Rattle.step_machine.specs.Frame.{is_object}
 use Rattle.step_machine.specs.Turn.{Thread, thread_at}
 use Rattle.step_machine.specs.Machine.{Machine, next}
 use Rattle.step_machine.specs.Total.{Total, reading, same}
 use Rattle.step_machine.specs.Flips.{flipped_of}
 use Rattle.fault_model.specs.Parts.{PartWord}
 use Rattle.fault_model.specs.Inside.{is_inside}
-use Rattle.fault_model.specs.Admissible.{Hits, Hit, is_admissible, part_word_of}
+use Rattle.fault_model.specs.Admissible.{Hit, is_admissible, part_word_of}
 use Rattle.fault_model.specs.Progress.{Progress, with_flip, with_turn}
-use Rattle.fault_model.specs.Stays.{is_top_on}
 
 abbrev pub Marks : Type 0
 Marks = ℕ → ClassId → Bool

@@ -1,12 +1,12 @@
 -- Which waiting lines a turn may make admissible: those on an object that is made, and those on parts that the frame that
 -- ran was inside of, where it is gone.
-use Rattle.std.specs.Prelude.{◌≡◌, ◌<◌, ◌≤◌, ◌⊎◌, ℕ, suc, Bool, true, false, length, Option, Some, None}
+use Rattle.std.specs.Prelude.{◌≡◌, ◌<◌, ◌≤◌, ◌⊎◌, ℕ, suc, true, false, length, Option, Some, None}
 use Rattle.agxx_base.specs.declared.ids.ClassId.{ClassId}
 use Rattle.flip_plan.specs.declared.flip.PlannedFlip.{PlannedFlip}
 use Rattle.step_machine.specs.Turn.{thread_at}
 use Rattle.step_machine.specs.Machine.{Machine, next}
-use Rattle.step_machine.specs.Total.{Total, reading, next_of}
-use Rattle.fault_model.specs.Admissible.{Hits, while_out, is_admissible, part_word_of}
+use Rattle.step_machine.specs.Total.{Total, reading}
+use Rattle.fault_model.specs.Admissible.{Hits, while_out, is_admissible}
 use Rattle.fault_model.specs.Stays.{is_top_on}
 use Rattle.fault_lines.specs.Lines.{IsOn}
 
@@ -27,9 +27,9 @@ abbrev pub IsFor : Total → PlannedFlip → Option ClassId → Type 0
 IsFor m f None = m.made ≤ f.object.0
 IsFor m f (Some class) = (f.object.0 < m.made) × ((m.class f.object.0 ≡ None) ⊎ IsOn m class f)
 
--- its object was made, and it never falls
+-- its object was made, and is destroyed by now, or has no such bit in a part
 abbrev pub IsDead : Total → PlannedFlip → Type 0
-IsDead m f = (f.object.0 < m.made) × ((hits : Hits) → is_admissible m hits f ≡ false)
+IsDead m f = (f.object.0 < m.made) × ((m.class f.object.0 ≡ None) ⊎ ((class : ClassId) → IsOn m class f → ⊥))
 
 pub record LinesAreWoken : Type 0 where
   -- what wasn't admissible and is
@@ -40,6 +40,10 @@ pub record LinesAreWoken : Type 0 where
   pub keeps_unmade : (m : Machine) (t : ℕ) (f : PlannedFlip) → IsFor (reading m) f None
       → IsFor (reading (next m t).0) f None ⊎ IsMade m t f
   pub keeps_dead : (m : Machine) (t : ℕ) (f : PlannedFlip) → IsDead (reading m) f → IsDead (reading (next m t).0) f
+  -- what is dead isn't admissible
+  pub dead : (m : Total) (hits : Hits) (f : PlannedFlip) → IsDead m f → is_admissible m hits f ≡ false
+  -- where its object was made, it is for a part or dead
+  pub cases : (m : Total) (f : PlannedFlip) → f.object.0 < m.made → ((class : ClassId) × IsFor m f (Some class)) ⊎ IsDead m f
   -- of one part, and of no other
   pub one_part : (m : Total) (f : PlannedFlip) (class other : ClassId) → IsOn m class f → IsOn m other f → class ≡ other
   -- while its object isn't made, it isn't admissible

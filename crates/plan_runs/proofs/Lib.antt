@@ -1,4 +1,2 @@
 mod Lefts
-mod Overs
-mod Moments
 pub mod Outputs

@@ -1,5 +1,9 @@
 pub mod Watches
 pub mod Flips
+pub mod Begins
+pub mod Places
+pub mod Wakings
+pub mod Turns
 pub mod Runs
 pub mod Reports
 pub mod Laws

@@ -1,0 +1,3 @@
+pub mod PartWords
+pub mod MarkSets
+pub mod Tops

@@ -1,0 +1,56 @@
+//! The lines that a moment goes through.
+
+ghost use Rattle.std.specs.Prelude.{◌≡◌, [], ◌∷◌, MatchOption, OnOk, OnErr};
+ghost use Rattle.fault_lines.specs.Due.{insert_in_order};
+
+use agxx_base::Memory;
+use flip_plan::PlannedFlip;
+use std::alloc::Global;
+use std::collections::BTreeMap;
+use std::marker::Model;
+
+/// Lines in the order of their numbers.
+#[derive(Drop)]
+pub struct Due {
+    lines: BTreeMap<u32, PlannedFlip>,
+}
+
+impl Model for Due {
+    ghost use Rattle.std.specs.Prelude.{List};
+    ghost use Rattle.std.specs.Map.{values_of};
+    ghost use Rattle.flip_plan.specs.declared.flip.PlannedFlip.{PlannedFlip};
+
+    ghost Value = { List PlannedFlip };
+
+    ghost view = { λ d. values_of d.lines.entries };
+}
+
+impl Due {
+    /// No lines, which takes no memory.
+    pub fn new(alloc: Global) -> Due
+        ensures { result ≡ [] }
+    {
+        Due {
+            lines: BTreeMap::new(alloc),
+        }
+    }
+
+    /// Adds a line.
+    pub fn add(&mut self, flip: PlannedFlip) -> Result<(), Memory>
+        ensures value { OnOk result (self.new ≡ insert_in_order flip self.old) }
+        ensures err { OnErr result (self.new ≡ self.old) }
+    {
+        self.lines.insert(flip.number, flip)?;
+        Ok(())
+    }
+
+    /// Takes the line with the least number.
+    pub fn pop(&mut self) -> Option<PlannedFlip>
+        ensures { MatchOption result ((self.old ≡ []) × (self.new ≡ [])) (λ f. self.old ≡ f ∷ self.new) }
+    {
+        match self.lines.pop_first() {
+            Some((_, flip)) => Some(flip),
+            None => None,
+        }
+    }
+}

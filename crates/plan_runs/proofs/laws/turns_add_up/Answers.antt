@@ -1,5 +1,0 @@
-use Rattle.std.proofs.Common.{refl}
-use Rattle.plan_runs.proofs.laws.turns_add_up.Goals as goal
-
-pub returns : goal.returns
-returns c = λ r flips. refl
