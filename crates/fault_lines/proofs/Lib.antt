@@ -1,2 +1,17 @@
+pub mod Lists
+pub mod Flips
+pub mod Ways
+pub mod Covered
+pub mod Enough
+pub mod Lines
 pub mod Marks
 pub mod Wakes
+pub mod Inserts
+pub mod Dues
+pub mod Lefts
+pub mod Files
+pub mod Onces
+pub mod Stills
+pub mod Moments
+pub mod Settles
+pub mod Readies

@@ -1,6 +1,6 @@
 -- Where the lines of a plan are kept in a run, so that no turn looks through all that wait: those whose moment is to come, by
 -- their moments; those that the next moment goes through; and those that wait for something to happen.
-use Rattle.std.specs.Prelude.{◌≡◌, ◌<◌, ◌≤◌, ◌⊎◌, ℕ, suc, Bool, true, false, List, [], ◌∷◌, length, map, Option, Some, None, if◌then◌else◌}
+use Rattle.std.specs.Prelude.{◌≡◌, ◌<◌, ◌≤◌, ◌⊎◌, ℕ, suc, true, false, List, [], ◌∷◌, length, map, Option, Some, None, if◌then◌else◌}
 use Rattle.std.specs.List.Sorted.{IsNonDecreasingBy}
 use Rattle.agxx_base.specs.declared.ids.ClassId.{ClassId}
 use Rattle.flip_plan.specs.declared.flip.PlannedFlip.{PlannedFlip}
@@ -16,7 +16,7 @@ use Rattle.fault_lines.specs.Lists.{IsIn, AreInOrder}
 use Rattle.fault_lines.specs.Due.{with_all}
 use Rattle.fault_lines.specs.Moments.{first_of, rest_of}
 use Rattle.fault_lines.specs.Waiting.{Waiter, waits, IsAdded}
-use Rattle.fault_lines.specs.Lines.{IsCovered, through, none_ahead}
+use Rattle.fault_lines.specs.Lines.{IsOn, IsCovered, through, none_ahead}
 use Rattle.fault_lines.specs.Wakes.{IsFor, IsDead}
 
 pub record Queues : Type 0 where
@@ -31,6 +31,16 @@ pub record Queues : Type 0 where
 -- it waits, for its object or for a part
 abbrev pub Waits : List Waiter → PlannedFlip → Type 0
 Waits ws f = (c : Option ClassId) × (waits ws f.object.0 c f.number ≡ Some f)
+
+-- in one place alone
+abbrev pub WaitsOnce : List Waiter → Type 0
+WaitsOnce ws =
+    (o : ℕ) (c d : Option ClassId) (n : ℕ) (f : PlannedFlip) → waits ws o c n ≡ Some f → waits ws o d n ≡ Some f → c ≡ d
+
+-- Each line that waits stands in one place, under its own object and number.
+pub record AreSound (ws : List Waiter) : Type 0 where
+  pub own : (o : ℕ) (c : Option ClassId) (n : ℕ) (f : PlannedFlip) → waits ws o c n ≡ Some f → (f.object.0 ≡ o) × (f.number ≡ n)
+  pub once : WaitsOnce ws
 
 -- A line whose moment has come waits for what it has to wait for.
 pub record WaitsFor (n : ℕ) (m : Total) (ahead : List PlannedFlip) (o : ℕ) (c : Option ClassId) (number : ℕ) (f : PlannedFlip) : Type 0 where
@@ -62,6 +72,7 @@ pub record AreSettled (n : ℕ) (m : Total) (hits : Hits) (ahead : List PlannedF
   pub left : IsLeftOf n ahead q.left
   pub none_due : q.due ≡ []
   pub waiting : AreWaiting n m ahead q.waiting
+  pub once : WaitsOnce q.waiting
   pub past : (f : PlannedFlip) → IsIn ahead f → f.moment < n
       → (f.waits ≡ true) × ((is_admissible m hits f ≡ false) × IsFiled m q.waiting f)
 
@@ -74,6 +85,7 @@ pub record AreReady (n : ℕ) (m : Total) (hits : Hits) (ahead : List PlannedFli
   -- what is due doesn't wait
   pub apart : (f : PlannedFlip) → IsIn q.due f → Waits q.waiting f → ⊥
   pub waiting : AreWaiting n m ahead q.waiting
+  pub once : WaitsOnce q.waiting
   pub past : (f : PlannedFlip) → IsIn ahead f → f.moment < n
       → (f.waits ≡ true)
       × (IsIn q.due f ⊎ (((is_admissible m hits f ≡ false) ⊎ IsCovered n m q.due f) × IsFiled m q.waiting f))
@@ -88,9 +100,14 @@ abbrev pub with_due : List PlannedFlip → Progress → Progress
 with_due [] p = p
 with_due (f ∷ fs) p = with_due fs (with_due_line f p)
 
+-- what a line waits for that isn't admissible now: for its object, which isn't made, or for the part that it is on
+abbrev pub IsNowFor : Total → PlannedFlip → Option ClassId → Type 0
+IsNowFor m f None = m.made ≤ f.object.0
+IsNowFor m f (Some class) = (f.object.0 < m.made) × IsOn m class f
+
 -- a line that stays waits from now on, unless it never falls
 abbrev pub Files : Total → PlannedFlip → List Waiter → List Waiter → Type 0
-Files m f ws more = (IsDead m f × (more ≡ ws)) ⊎ ((c : Option ClassId) × (IsFor m f c × IsAdded c f ws more))
+Files m f ws more = (IsDead m f × (more ≡ ws)) ⊎ ((c : Option ClassId) × (IsNowFor m f c × IsAdded c f ws more))
 
 abbrev pub FilesEach : Total → List PlannedFlip → List Waiter → List Waiter → Type 0
 FilesEach m [] ws more = more ≡ ws
@@ -131,8 +148,9 @@ pub record Takes (m : Machine) (t : ℕ) (q after : Queues) : Type 0 where
   pub taken : List PlannedFlip
   pub left : after.left ≡ q.left
   pub due : after.due ≡ with_all taken q.due
-  pub waited : (f : PlannedFlip) → IsIn taken f → Waits q.waiting f
-  pub gone : (f : PlannedFlip) → IsIn taken f → Waits after.waiting f → ⊥
+  pub waited : AreSound q.waiting → (f : PlannedFlip) → IsIn taken f → Waits q.waiting f
+  -- what is taken waits no more
+  pub gone : AreSound q.waiting → (f : PlannedFlip) → IsIn taken f → Waits after.waiting f → ⊥
   pub fewer : (o : ℕ) (c : Option ClassId) (n : ℕ) (f : PlannedFlip) → waits after.waiting o c n ≡ Some f → waits q.waiting o c n ≡ Some f
   pub rest : (o : ℕ) (c : Option ClassId) (n : ℕ) (f : PlannedFlip) → waits q.waiting o c n ≡ Some f
       → (waits after.waiting o c n ≡ Some f) ⊎ IsIn taken f

@@ -1,12 +1,12 @@
 -- What it comes to where some lines alone are gone through, because the others don't fall.
-use Rattle.std.specs.Prelude.{◌≡◌, ◌<◌, ◌≤◌, ◌⊎◌, ℕ, nat_eq, nat_lt, Bool, true, false, List, [], ◌∷◌, ◌++◌, map, Option, Some, None, if◌then◌else◌}
+use Rattle.std.specs.Prelude.{◌≡◌, ◌<◌, ◌≤◌, ◌⊎◌, ℕ, nat_eq, nat_lt, Bool, true, false, List, [], ◌∷◌, ◌++◌, map, Some}
 use Rattle.agxx_base.specs.declared.ids.ClassId.{ClassId}
 use Rattle.cxx_arith.specs.Kinds.{width}
 use Rattle.flip_plan.specs.declared.flip.PlannedFlip.{PlannedFlip}
 use Rattle.step_machine.specs.Total.{Total}
 use Rattle.step_machine.specs.Flips.{flipped_of}
 use Rattle.fault_model.specs.Parts.{PartWord}
-use Rattle.fault_model.specs.PlanLines.{PlanLine, flip_of, line_of}
+use Rattle.fault_model.specs.PlanLines.{line_of}
 use Rattle.fault_model.specs.Admissible.{Hits, is_admissible, part_word_of}
 use Rattle.fault_model.specs.Progress.{Progress, falls, with_flip, after_lines}
 use Rattle.fault_lines.specs.Lists.{IsIn, AreInOrder}

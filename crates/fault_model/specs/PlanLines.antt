@@ -1,5 +1,5 @@
 -- The lines `flip` and `free` of a plan.
-use Rattle.std.specs.Prelude.{ℕ, if◌then◌else◌, List, map}
+use Rattle.std.specs.Prelude.{ℕ, Bool, true, false, List, map}
 use Rattle.flip_plan.specs.declared.flip.PlannedFlip.{PlannedFlip}
 use Rattle.flip_plan.specs.Plans.{PlanMeaning, turn_of}
 
@@ -19,9 +19,13 @@ pub record FaultPlan : Type 0 where
   pub turn : ℕ → ℕ
   pub lines : List PlanLine
 
+abbrev pub line_by : Bool → PlannedFlip → PlanLine
+line_by true f = free f
+line_by false f = flip f
+
 -- the line that gave a flip
 abbrev pub line_of : PlannedFlip → PlanLine
-line_of f = if f.waits then free f else flip f
+line_of f = line_by f.waits f
 
 -- the lines of a plan that was read
 abbrev pub lines_of : PlanMeaning → List PlanLine

@@ -133,10 +133,13 @@ abbrev pub Falls : PlannedFlip → Machine → Watched → List PlannedFlip → 
 Falls f m w kept now after more =
     FallsOn f (target_of (reading m) f (has w.marks)) m w now after × (more ≡ kept)
 
+abbrev pub GoesBy : Bool → PlannedFlip → Machine → Watched → List PlannedFlip → Machine → Watched → List PlannedFlip → Type 0
+GoesBy true f m w kept now after more = IsKept f m w kept now after more
+GoesBy false f m w kept now after more = Falls f m w kept now after more
+
 abbrev pub Goes : PlannedFlip → Machine → Watched → List PlannedFlip → Machine → Watched → List PlannedFlip → Type 0
 Goes f m w kept now after more =
-    if f.waits && not (target_of (reading m) f (has w.marks)).is_admissible then IsKept f m w kept now after more
-    else Falls f m w kept now after more
+    GoesBy (f.waits && not (target_of (reading m) f (has w.marks)).is_admissible) f m w kept now after more
 
 -- ---- what changes alone
 
