@@ -14,7 +14,7 @@ same_class None (Some d) = false
 same_class (Some c) None = false
 same_class (Some c) (Some d) = nat_eq c.0 d.0
 
--- object, class and number are these
+-- whether object, class and number are the same
 abbrev pub is_spot : ℕ → Option ClassId → ℕ → ℕ → Option ClassId → ℕ → Bool
 is_spot o c n p d m = nat_eq o p && (same_class c d && nat_eq n m)
 
@@ -36,6 +36,8 @@ TakesFirst object class f old new = (waits old object class f.number ≡ Some f)
     × ((o : ℕ) (c : Option ClassId) (n : ℕ)
     → waits new o c n ≡ (if is_spot o c n object class f.number then None else waits old o c n))
 
--- none for an object and a class
-abbrev pub WaitsNone : ℕ → Option ClassId → List Waiter → Type 0
-WaitsNone object class v = (n : ℕ) → waits v object class n ≡ None
+abbrev pub NoLineWaits : List Waiter → Type 0
+NoLineWaits v = (o : ℕ) (c : Option ClassId) (n : ℕ) → waits v o c n ≡ None
+
+abbrev pub NoLineWaitsFor : ℕ → Option ClassId → List Waiter → Type 0
+NoLineWaitsFor object class v = (n : ℕ) → waits v object class n ≡ None

@@ -1,0 +1,4 @@
+pub mod Dues
+pub mod Firsts
+pub mod Orders
+pub mod Waits

@@ -9,7 +9,8 @@ use std::alloc::Global;
 use std::collections::BTreeMap;
 use std::marker::Model;
 
-/// Lines in the order of their numbers.
+/// Lines in the order of their numbers, each number once. To add one, or to take the first, takes few steps, however
+/// many there are.
 #[derive(Drop)]
 pub struct Due {
     lines: BTreeMap<u32, PlannedFlip>,
@@ -19,10 +20,13 @@ impl Model for Due {
     ghost use Rattle.std.specs.Prelude.{List};
     ghost use Rattle.std.specs.Map.{values_of};
     ghost use Rattle.flip_plan.specs.declared.flip.PlannedFlip.{PlannedFlip};
+    ghost use Rattle.fault_watch.specs.Numbered.{AreNumbered};
 
     ghost Value = { List PlannedFlip };
 
     ghost view = { λ d. values_of d.lines.entries };
+
+    ghost invariant = { λ d. AreNumbered d.lines.entries };
 }
 
 impl Due {
@@ -35,7 +39,7 @@ impl Due {
         }
     }
 
-    /// Adds a line.
+    /// Adds a line, in the place of the one that has its number.
     pub fn add(&mut self, flip: PlannedFlip) -> Result<(), Memory>
         ensures value { OnOk result (self.new ≡ insert_in_order flip self.old) }
         ensures err { OnErr result (self.new ≡ self.old) }

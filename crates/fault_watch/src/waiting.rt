@@ -1,41 +1,79 @@
 //! Lines that wait.
 
-ghost use Rattle.std.specs.Prelude.{◌≡◌, ℕ, [], None, true, Option, MatchOption, OnOk, OnErr};
-ghost use Rattle.agxx_base.specs.declared.ids.ClassId.{ClassId};
+ghost use Rattle.std.specs.Prelude.{◌≡◌, ◌↔◌, IsTrue, MatchOption, OnOk, OnErr};
+ghost use Rattle.fault_watch.specs.Spots as spots;
 ghost use Rattle.fault_lines.specs.Waiting as spec;
 
 use agxx_base::{ClassId, Memory, ObjectId};
 use flip_plan::PlannedFlip;
 use std::alloc::Global;
+use std::collections::BTreeMap;
 use std::marker::Model;
 
-/// Lines that wait: for an object that isn't made, or for a part of one that is.
+/// Where a line stands among those that wait: by its object, by the part and by its number.
+#[derive(Clone, Copy, Debug, PartialEq, Eq, PartialOrd, Ord)]
+struct Spot {
+    object: ObjectId,
+    class: Option<ClassId>,
+    number: u32,
+}
+
+/// Lines that wait: for an object that isn't made, or for a part of one that is. To add one, or to take the first for a
+/// part, takes few steps, however many there are. Of one object, part and number there is one line, the last.
 #[derive(Drop)]
 pub struct Waiting {
-    lines: Vec<u32>,
+    lines: BTreeMap<Spot, PlannedFlip>,
 }
 
 impl Model for Waiting {
-    ghost use Rattle.std.specs.Prelude.{List, []};
+    ghost use Rattle.std.specs.Prelude.{List};
     ghost use Rattle.fault_lines.specs.Waiting.{Waiter};
 
     ghost Value = { List Waiter };
 
-    ghost view = { λ w. [] };
+    ghost use Rattle.fault_watch.specs.Spots.{waiters_of, AreOwn};
+
+    ghost view = { λ w. waiters_of w.lines.entries };
+
+    ghost invariant = { λ w. AreOwn w.lines.entries };
+}
+
+/// Where the first line for an object and a part stands.
+fn first_of(
+    lines: &BTreeMap<Spot, PlannedFlip>,
+    object: ObjectId,
+    class: Option<ClassId>,
+) -> Option<Spot>
+    ensures { MatchOption result (spots.HasNone object.0 class lines.now)
+        (spots.IsFirstOf object.0 class lines.now) }
+{
+    let start = Spot {
+        object,
+        class,
+        number: 0,
+    };
+    let Some((spot, _)) = lines.range(start..).next() else {
+        return None;
+    };
+    if spot.object == object && spot.class == class {
+        Some(*spot)
+    } else {
+        None
+    }
 }
 
 impl Waiting {
     /// No lines, which takes no memory.
     pub fn new(alloc: Global) -> Waiting
-        ensures { (o : ℕ) (c : Option ClassId) (n : ℕ) → spec.waits result o c n ≡ None }
+        ensures { spec.NoLineWaits result }
     {
         Waiting {
-            lines: Vec::new(alloc),
+            lines: BTreeMap::new(alloc),
         }
     }
 
     pub fn is_empty(&self) -> bool
-        ensures { result ≡ true → (o : ℕ) (c : Option ClassId) (n : ℕ) → spec.waits self.now o c n ≡ None }
+        ensures { IsTrue result ↔ spec.NoLineWaits self.now }
     {
         self.lines.is_empty()
     }
@@ -45,14 +83,24 @@ impl Waiting {
         ensures added { OnOk result (spec.IsAdded class flip self.old self.new) }
         ensures err { OnErr result (self.new ≡ self.old) }
     {
+        let spot = Spot {
+            object: flip.object,
+            class,
+            number: flip.number,
+        };
+        self.lines.insert(spot, flip)?;
         Ok(())
     }
 
-    /// Takes the line with the least number that waits for an object, or for the part of a class of it.
+    /// Takes the line with the least number that waits for the object, or for the part of a class of it.
     pub fn take_first(&mut self, object: ObjectId, class: Option<ClassId>) -> Option<PlannedFlip>
-        ensures { MatchOption result ((self.new ≡ self.old) × spec.WaitsNone object.0 class self.old) (λ flip.
-            spec.TakesFirst object.0 class flip self.old self.new) }
+        ensures { MatchOption result
+            ((self.new ≡ self.old) × spec.NoLineWaitsFor object.0 class self.old)
+            (λ f. spec.TakesFirst object.0 class f self.old self.new) }
     {
-        None
+        match first_of(&self.lines, object, class) {
+            Some(spot) => self.lines.remove(&spot),
+            None => None,
+        }
     }
 }

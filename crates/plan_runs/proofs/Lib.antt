@@ -1,2 +1,4 @@
 mod Lefts
+mod Falls
+mod Filed
 pub mod Outputs

@@ -8,7 +8,7 @@ use Rattle.step_machine.specs.Turn.{thread_at}
 use Rattle.step_machine.specs.Machine.{Machine}
 use Rattle.fault_lines.specs.Lists.{IsIn}
 use Rattle.fault_lines.specs.Due.{with_all}
-use Rattle.fault_lines.specs.Waiting.{Waiter, waits, TakesFirst, WaitsNone}
+use Rattle.fault_lines.specs.Waiting.{Waiter, waits, NoLineWaitsFor}
 use Rattle.fault_lines.specs.Keeping.{Queues, Waits, IsLedBy}
 use Rattle.fault_watch.specs.declared.inside.Top.{Top}
 use Rattle.plan_runs.specs.Watches.{Watched, with_queues}
@@ -28,7 +28,7 @@ pub record Wakes (taken : List PlannedFlip) (w after : Watched) : Type 0 where
 pub record Empties (o : ℕ) (w after : Watched) : Type 0 where
   pub taken : List PlannedFlip
   pub wakes : Wakes taken w after
-  pub none : WaitsNone o None after.queues.waiting
+  pub none : NoLineWaitsFor o None after.queues.waiting
 
 -- what still waits for a part stands behind a line that was taken
 abbrev pub AreLed : Machine → List PlannedFlip → Watched → Watched → ℕ → ClassId → Type 0
@@ -61,4 +61,4 @@ pub record WakesBy (m : Machine) (thread : ℕ) (top : Option Top) (made : ℕ) 
   pub led : (t : Top) (object : ObjectId) (class : ClassId) → top ≡ Some t → t.object ≡ Some object
       → length (thread_at m.threads thread) < t.depth → is_of m.setting t.class (Some class) ≡ true
       → AreLed m taken w after object.0 class
-  pub none : made < length m.world.objects → WaitsNone made None after.queues.waiting
+  pub none : made < length m.world.objects → NoLineWaitsFor made None after.queues.waiting

@@ -1,9 +1,8 @@
 //! What watches a run.
 
-ghost use Rattle.std.specs.Prelude.{◌≡◌, ◌+◌, ◌<◌, ◌^◌, ℕ, [], ◌∷◌, true, Option, None, IfOk, OnOk, MatchOption, option_map};
-ghost use Rattle.agxx_base.specs.declared.ids.ClassId.{ClassId};
+ghost use Rattle.std.specs.Prelude.{◌≡◌, ◌+◌, ◌<◌, ◌^◌, [], ◌∷◌, ◌↔◌, IsTrue, IfOk, OnOk, MatchOption, option_map};
 ghost use Rattle.fault_lines.specs.Due.{insert_in_order};
-ghost use Rattle.fault_lines.specs.Waiting.{waits, WaitsNone};
+ghost use Rattle.fault_lines.specs.Waiting.{NoLineWaits, NoLineWaitsFor};
 ghost use Rattle.fault_model.specs.Progress.{judged};
 ghost use Rattle.flip_plan.specs.Plans.{IsNumbered};
 ghost use Rattle.plan_runs.specs.Begins.{IsBegun};
@@ -223,7 +222,7 @@ impl Watch {
         class: Option<ClassId>,
     ) -> Option<PlannedFlip>
         ensures { MatchOption result
-            ((self.new ≡ self.old) × WaitsNone object.0 class self.old.queues.waiting)
+            ((self.new ≡ self.old) × NoLineWaitsFor object.0 class self.old.queues.waiting)
             (λ flip. TakesOut object.0 class flip self.old self.new) }
     {
         self.waiting.take_first(object, class)
@@ -239,7 +238,7 @@ impl Watch {
 
     /// Whether no line waits.
     pub(crate) fn waits_for_none(&self) -> bool
-        ensures { result ≡ true → (o : ℕ) (c : Option ClassId) (n : ℕ) → waits self.now.queues.waiting o c n ≡ None }
+        ensures { IsTrue result ↔ NoLineWaits self.now.queues.waiting }
     {
         self.waiting.is_empty()
     }
