@@ -1,4 +1,5 @@
 mod Lefts
 mod Falls
 mod Filed
+mod Turned
 pub mod Outputs

@@ -9,7 +9,7 @@ use Rattle.step_machine.specs.Machine.{Machine}
 use Rattle.fault_lines.specs.Lists.{IsIn}
 use Rattle.fault_lines.specs.Due.{with_all}
 use Rattle.fault_lines.specs.Waiting.{Waiter, waits, NoLineWaitsFor}
-use Rattle.fault_lines.specs.Keeping.{Queues, Waits, IsLedBy}
+use Rattle.fault_lines.specs.Keeping.{AreSound, Waits, IsLedBy}
 use Rattle.fault_watch.specs.declared.inside.Top.{Top}
 use Rattle.plan_runs.specs.Watches.{Watched, with_queues}
 
@@ -18,8 +18,8 @@ pub record Wakes (taken : List PlannedFlip) (w after : Watched) : Type 0 where
   pub left : after.queues.left ≡ w.queues.left
   pub due : after.queues.due ≡ with_all taken w.queues.due
   pub all_else : after ≡ with_queues after.queues w
-  pub waited : (f : PlannedFlip) → IsIn taken f → Waits w.queues.waiting f
-  pub gone : (f : PlannedFlip) → IsIn taken f → Waits after.queues.waiting f → ⊥
+  pub waited : AreSound w.queues.waiting → (f : PlannedFlip) → IsIn taken f → Waits w.queues.waiting f
+  pub gone : AreSound w.queues.waiting → (f : PlannedFlip) → IsIn taken f → Waits after.queues.waiting f → ⊥
   pub fewer : (o : ℕ) (c : Option ClassId) (n : ℕ) (f : PlannedFlip) → waits after.queues.waiting o c n ≡ Some f → waits w.queues.waiting o c n ≡ Some f
   pub rest : (o : ℕ) (c : Option ClassId) (n : ℕ) (f : PlannedFlip) → waits w.queues.waiting o c n ≡ Some f
       → (waits after.queues.waiting o c n ≡ Some f) ⊎ IsIn taken f
