@@ -1,4 +1,10 @@
-pub mod Dues
-pub mod Firsts
-pub mod Orders
+mod Joined
+mod Lines
+mod PartWords
+mod Insides
+mod MarkSets
+mod Depths
+mod Dues
+mod Firsts
+mod Orders
 pub mod Waits

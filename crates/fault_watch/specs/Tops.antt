@@ -1,13 +1,20 @@
--- The frame that runs in a thread.
-use Rattle.std.specs.Prelude.{ℕ, List, [], ◌∷◌, length, Option, Some, None, option_map}
-use Rattle.agxx_base.specs.declared.ids.ObjectId.{ObjectId}
+-- The frame that runs in a thread, as callers are told of it.
+use Rattle.std.specs.Prelude.{ℕ, [], ◌∷◌, length, Option, Some, None, option_map}
 use Rattle.step_machine.specs.Setting.{Setting, class_of_function}
+use Rattle.step_machine.specs.Frame.{Frame}
 use Rattle.step_machine.specs.Turn.{Thread}
+use Rattle.step_machine.specs.Machine.{as_object}
 use Rattle.fault_watch.specs.declared.inside.Top.{Top}
 
-abbrev pub object_id : ℕ → ObjectId
-object_id o = record { 0 = o }
+-- of a frame in a thread with so many
+abbrev pub top_frame : Setting → Frame → ℕ → Top
+top_frame s f depth = record {
+  object = option_map as_object f.this;
+  class = class_of_function s f.function;
+  depth = depth;
+}
 
+-- of the first frame, if there is one
 abbrev pub top_of : Setting → Thread → Option Top
 top_of s [] = None
-top_of s (f ∷ fs) = Some (record { object = option_map object_id f.this; class = class_of_function s f.function; depth = length (f ∷ fs) })
+top_of s (f ∷ fs) = Some (top_frame s f (length (f ∷ fs)))

@@ -1,6 +1,9 @@
-//! Stub.
+//! What a watch on a run looks up: the words of parts, who is inside a part and who runs; and what it keeps: the set of
+//! hit parts, lines that wait by what they wait for, and lines that a moment goes through. What is found is defined in
+//! `fault_model`, and what is kept in `fault_lines`. Callers cite `PartWords`, `Tops` and `MarkSets`.
 #![tactic(auto)]
 
+mod classes;
 mod due;
 mod inside;
 mod marks;

@@ -9,7 +9,7 @@ use Rattle.step_machine.specs.declared.outcome.StepKind.TheVariants as kind
 use Rattle.step_machine.specs.Setting.{Setting, class_of_function, is_of}
 use Rattle.step_machine.specs.Frame.{Frame, is_object}
 use Rattle.step_machine.specs.Turn.{Thread, thread_at}
-use Rattle.step_machine.specs.Machine.{Machine, Next, next}
+use Rattle.step_machine.specs.Machine.{Machine, Next, next, as_object}
 use Rattle.step_machine.specs.Runs.{counted}
 use Rattle.step_machine.specs.Total.{Total, NextOf, reading, next_of}
 use Rattle.step_machine.proofs.Turns.{agree}
@@ -23,7 +23,7 @@ use Rattle.fault_lines.specs.Waiting.{waits, NoLineWaitsFor}
 use Rattle.fault_lines.specs.Keeping.{Queues, Takes, IsLedBy}
 use Rattle.fault_lines.proofs.Marks.{sets-tell-hits}
 use Rattle.fault_watch.specs.MarkSets.{has}
-use Rattle.fault_watch.specs.Tops.{object_id, top_of}
+use Rattle.fault_watch.specs.Tops.{top_of}
 use Rattle.fault_watch.specs.declared.inside.Top.{Top}
 use Rattle.plan_runs.specs.Watches.{Watched, StandsAt, IsCounted, IsCleared}
 use Rattle.plan_runs.specs.Wakings.{AreLed, WakesBy}
@@ -31,7 +31,7 @@ use Rattle.plan_runs.specs.Turns.{LeavesParts, TakesTurn}
 
 -- ---- the frame that runs
 
-number-of-id : (x : Option ℕ) → option_map number_of (option_map object_id x) ≡ x
+number-of-id : (x : Option ℕ) → option_map number_of (option_map as_object x) ≡ x
 number-of-id None = refl
 number-of-id (Some o) = refl
 
@@ -119,9 +119,9 @@ and-second : (a b : Bool) → (a && b) ≡ true → b ≡ true
 and-second true b e = e
 and-second false b e = cc e
 
-this-is : (o : ℕ) (this : Option ℕ) → is_object o this ≡ true → option_map object_id this ≡ Some (record { 0 = o })
+this-is : (o : ℕ) (this : Option ℕ) → is_object o this ≡ true → option_map as_object this ≡ Some (record { 0 = o })
 this-is o None e = cc e
-this-is o (Some p) e = let q : p ≡ o = grind (arith, nat_tests) in ap (λ x. Some (object_id x)) q
+this-is o (Some p) e = let q : p ≡ o = grind (arith, nat_tests) in ap (λ x. Some (as_object x)) q
 
 module _ (thread : ℕ) (m : Machine) (now : Machine) (left after : Watched) (top : Option Top) (made : ℕ) (is : now ≡ (next m thread).0)
     (top_is : top ≡ top_of m.setting (thread_at m.threads thread)) (made_is : made ≡ length m.world.objects)
@@ -133,7 +133,7 @@ module _ (thread : ℕ) (m : Machine) (now : Machine) (left after : Watched) (to
       → length (thread_at now.threads thread) < length fs → AreLed now x.taken left after o class
   led-by o class [] e h l = cc h
   led-by o class (f ∷ fs) e h l =
-      x.led (record { object = option_map object_id f.this; class = class_of_function m.setting f.function; depth = length (f ∷ fs) })
+      x.led (record { object = option_map as_object f.this; class = class_of_function m.setting f.function; depth = length (f ∷ fs) })
       (record { 0 = o }) class e
       (this-is o f.this (and-first (is_object o f.this) (is_of m.setting (class_of_function m.setting f.function) (Some class)) h)) l
       (ap (λ s. is_of s (class_of_function m.setting f.function) (Some class)) setting-stays
