@@ -19,8 +19,11 @@ use Rattle.step_machine.specs.Setting.{Setting, class_at}
 use Rattle.step_machine.specs.Start.{start}
 use Rattle.step_machine.specs.Runs.{Ran}
 use Rattle.plan_runs.specs.declared.report.Report.{Report}
-use Rattle.plan_runs.specs.Reports.{report_of}
-use Rattle.plan_runs.specs.Runs.{Progress, planned, unflipped}
+use Rattle.fault_model.specs.declared.verdict.Verdict.{Verdict}
+use Rattle.fault_model.specs.declared.verdict.Verdict.TheVariants as verdict
+use Rattle.fault_model.specs.Progress.{Progress}
+use Rattle.plan_runs.specs.Reports.{report_of, report_of_run}
+use Rattle.plan_runs.specs.Runs.{planned, unflipped}
 use Rattle.agxx_main.specs.declared.answer.Answer.{Answer}
 use Rattle.agxx_main.specs.declared.way.Way.{Way}
 use Rattle.agxx_main.specs.declared.way.Way.TheVariants as way
@@ -87,13 +90,25 @@ turns_text r =
 abbrev pub summary : List ℕ → Setting → Report → List ℕ
 summary file s r = state_text file s r.state ++ 10 ∷ [] ++ turns_text r ++ 10 ∷ []
 
+-- whether the flips that came were admissible, and else the line of the first that wasn't
+abbrev pub verdict_text : Verdict → List ℕ
+verdict_text verdict.Admissible = codes "verdict admissible"
+verdict_text (verdict.First number) = codes "verdict inadmissible flip " ++ decimal number
+
+abbrev pub woven_summary : List ℕ → Setting → Report → Verdict → List ℕ
+woven_summary file s r v = summary file s r ++ verdict_text v ++ 10 ∷ []
+
 -- ---- the answer
 
 abbrev pub ran_answer : List ℕ → Setting → Ran → ℕ → Answer
 ran_answer file s r flips = record { status = run_status r.0.state; out = r.0.world.output; diag = summary file s (report_of r flips) }
 
 abbrev pub progress_answer : List ℕ → Setting → Progress → Answer
-progress_answer file s p = ran_answer file s p.ran p.flips
+progress_answer file s p = record {
+  status = run_status p.total.state;
+  out = p.total.output;
+  diag = woven_summary file s (report_of_run p) p.verdict;
+}
 
 -- run as a woven program, by a plan with its flips,
 abbrev pub woven_run_answer : PlanMeaning → List ℕ → Setting → Answer

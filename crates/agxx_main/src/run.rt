@@ -6,39 +6,29 @@ ghost use Rattle.agxx_main.specs.RunAnswers as spec;
 
 use crate::answer::Answer;
 use crate::buffer::Buffer;
-use crate::summary::{run_status, summary};
+use crate::summary::{run_status, summary, woven_summary};
 use crate::way::Way;
 use agxx_base::{Memory, Names, Text};
 use cxx_elaborate::elaborate;
 use cxx_names::Declared;
 use cxx_tree::Program;
 use flip_plan::Plan;
-use plan_runs::{Report, RunError, Watch};
+use plan_runs::{RunError, Watch};
 use source_steps::SourceRun;
 use std::alloc::Global;
+use step_machine::State;
 use step_setting::Setting;
 use woven_steps::WovenRun;
 
 /// What a run comes to that printed this and tells this.
-fn answer_run(
-    alloc: Global,
-    file: &Text,
-    setting: &Setting,
-    out: Text,
-    report: Report,
-) -> Result<Answer, Memory>
-    ensures { IfOk result (λ answer. answer ≡ record {
-      status = spec.run_status report.state;
-      out = out;
-      diag = spec.summary file.now setting.now report;
-    }) }
+fn answer_run(state: State, out: Text, diag: Text) -> Answer
+    ensures { result ≡ record { status = spec.run_status state; out = out; diag = diag } }
 {
-    let diag = summary(alloc, file.bytes(), setting, report)?;
-    Ok(Answer {
-        status: run_status(report.state),
+    Answer {
+        status: run_status(state),
         out,
         diag,
-    })
+    }
 }
 
 /// Runs a woven program.
@@ -49,7 +39,10 @@ fn run_woven(alloc: Global, plan: &Plan, file: &Text, setting: &Setting) -> Resu
     let mut watch = Watch::new(alloc, plan)?;
     let mut out = Buffer::new(alloc);
     match run.run(plan, &mut out, &mut watch) {
-        Ok(report) => answer_run(alloc, file, setting, out.into_text(), report),
+        Ok(report) => {
+            let diag = woven_summary(alloc, file.bytes(), setting, report, watch.verdict())?;
+            Ok(answer_run(report.state, out.into_text(), diag))
+        }
         Err(RunError::Memory | RunError::WriteFault) => Err(Memory),
     }
 }
@@ -61,7 +54,10 @@ fn run_source(alloc: Global, plan: &Plan, file: &Text, setting: &Setting) -> Res
     let mut run = SourceRun::start(alloc, setting)?;
     let mut out = Buffer::new(alloc);
     match run.run(plan, &mut out) {
-        Ok(report) => answer_run(alloc, file, setting, out.into_text(), report),
+        Ok(report) => {
+            let diag = summary(alloc, file.bytes(), setting, report)?;
+            Ok(answer_run(report.state, out.into_text(), diag))
+        }
         Err(RunError::Memory | RunError::WriteFault) => Err(Memory),
     }
 }

@@ -6,6 +6,7 @@ ghost use Rattle.agxx_main.specs.RunAnswers as spec;
 
 use crate::line::Line;
 use agxx_base::{ClassId, Memory, NameId, ObjectId, Status, Text};
+use fault_model::Verdict;
 use plan_runs::Report;
 use std::alloc::Global;
 use step_machine::{State, Stop};
@@ -141,7 +142,7 @@ fn turns_text(alloc: Global, report: Report) -> Result<Text, Memory>
     Ok(line.whole())
 }
 
-/// The summary of a run.
+/// The summary of a run without flips.
 pub(crate) fn summary(
     alloc: Global,
     file: &[u8],
@@ -154,5 +155,39 @@ pub(crate) fn summary(
     line.text(state_text(alloc, file, setting, report.state)?.bytes())?;
     line.text(b"\n".as_slice())?;
     line.text(turns_text(alloc, report)?.bytes())?;
+    line.end()
+}
+
+/// Whether the flips that came were admissible.
+fn verdict_text(alloc: Global, verdict: Verdict) -> Result<Text, Memory>
+    ensures { IfOk result (λ text. text ≡ spec.verdict_text verdict) }
+{
+    let mut line = Line::new(alloc);
+    match verdict {
+        Verdict::Admissible => {
+            line.text(b"verdict admissible".as_slice())?;
+            Ok(line.whole())
+        }
+        Verdict::First(number) => {
+            line.text(b"verdict inadmissible flip ".as_slice())?;
+            line.number(u64::from(number))?;
+            Ok(line.whole())
+        }
+    }
+}
+
+/// The summary of a run with its flips.
+pub(crate) fn woven_summary(
+    alloc: Global,
+    file: &[u8],
+    setting: &Setting,
+    report: Report,
+    verdict: Verdict,
+) -> Result<Text, Memory>
+    ensures { IfOk result (λ text. text ≡ spec.woven_summary file.now setting.now report verdict) }
+{
+    let mut line = Line::new(alloc);
+    line.text(summary(alloc, file, setting, report)?.bytes())?;
+    line.text(verdict_text(alloc, verdict)?.bytes())?;
     line.end()
 }

@@ -94,6 +94,7 @@ pub fn run_plan<H: Heap>(
 ) -> Result<Report, Memory>
     requires { IsBegun plan.now watch.old }
     ensures total { OnOk result (reading engine.new ≡ (planned plan.now engine.old).total) }
+    ensures output { OnOk result (engine.new.world.output ≡ (planned plan.now engine.old).total.output) }
     ensures report { IfOk result (λ report. report ≡ report_of_run (planned plan.now engine.old)) }
     ensures erased { OnOk result (watch.new.erased ≡ (planned plan.now engine.old).erased) }
     ensures verdict { OnOk result (watch.new.verdict ≡ (planned plan.now engine.old).verdict) }

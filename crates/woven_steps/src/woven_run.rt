@@ -1,10 +1,11 @@
 //! Runs of woven programs.
 
-ghost use Rattle.std.specs.Prelude.{◌≡◌, [], IfOk, OnOk, OnErr};
-ghost use Rattle.plan_runs.specs.Flips.{IsLeft};
+ghost use Rattle.std.specs.Prelude.{◌≡◌, IfOk, OnOk, OnErr};
+ghost use Rattle.plan_runs.specs.Begins.{IsBegun};
 ghost use Rattle.plan_runs.specs.Outputs.{WritesOutput};
-ghost use Rattle.plan_runs.specs.Reports.{report_of};
+ghost use Rattle.plan_runs.specs.Reports.{report_of_run};
 ghost use Rattle.plan_runs.specs.Runs.{planned};
+ghost use Rattle.step_machine.specs.Total.{reading};
 ghost use Rattle.step_machine.specs.Machine.{next};
 ghost use Rattle.step_machine.specs.Start.{start};
 
@@ -79,14 +80,13 @@ impl<'p> WovenRun<'p> {
     ) -> Result<Report, RunError>
         // No turn was taken.
         requires begun { self.old ≡ start self.old.setting }
-        requires left { IsLeft plan.now.flips 0 watch.old.left }
-        requires new { watch.old.erased ≡ [] }
-        ensures machine { OnOk result (self.new ≡ (planned plan.now self.old).ran.0) }
-        ensures report { IfOk result (λ report. report ≡
-            report_of (planned plan.now self.old).ran (planned plan.now self.old).flips) }
+        requires new { IsBegun plan.now watch.old }
+        ensures total { OnOk result (reading self.new ≡ (planned plan.now self.old).total) }
+        ensures report { IfOk result (λ report. report ≡ report_of_run (planned plan.now self.old)) }
         ensures erased { OnOk result (watch.new.erased ≡ (planned plan.now self.old).erased) }
+        ensures verdict { OnOk result (watch.new.verdict ≡ (planned plan.now self.old).verdict) }
         ensures output { WritesOutput (O.taken sink.old) (O.taken sink.new)
-            (planned plan.now self.old).ran.0.world.output (O.faults sink.old) (O.faults sink.new) result }
+            (planned plan.now self.old).total.output (O.faults sink.old) (O.faults sink.new) result }
     {
         let Ok(report) = run_plan(&mut self.engine, plan, watch) else {
             return Err(RunError::Memory);
