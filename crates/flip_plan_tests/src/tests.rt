@@ -35,7 +35,7 @@ fn refusals_stand_at_their_places(rt: HostRuntime) -> Result<(), Fail> {
         (b"limit", "F2@1:6"),
         (b"limit 100000001", "F3@1:7"),
         (b"limit 1\nlimit 1", "F4@2:1"),
-        (b"limit 1\n free 1 2 3 4", "F1@2:2"),
+        (b"limit 1\n frees 1 2 3 4", "F1@2:2"),
         (b"limit 1\nturns 3 4*0", "F2@2:9"),
         (b"limit 1\ncycle 1*999999 7 8", "F3@2:18"),
         (b"limit 1\nflip 1 2 3\r", "F2@2:12"),
