@@ -9,12 +9,12 @@ import subprocess
 import tempfile
 
 import program
+import tables
+from tables import COMMANDS
 
 CASES = ("cases/plans.txt", "cases/schedules.txt", "cases/flips.txt")
-INDENT = "    "
 # A device that takes no byte.
 FULL = "/dev/full"
-COMMANDS = {"exec": ["exec", "a.cc", "x.plan"], "source": ["source", "x.plan", "a.cc"]}
 USAGE = "usage: agxx weave CC AH.. | exec CC [PLAN] | run PLAN CC AH.. | source PLAN CC AH.. | points CC AH.. | demo N"
 
 # A program of 6 steps, and how it runs by its own turns alone and by those of 8 threads.
@@ -30,6 +30,8 @@ FULL_RUNS = [("exec", PLAN, "stdout"), ("source", PLAN, "stdout"), ("exec", PLAN
 # A program of 10 steps that reads its only word in turn 4, its fifth.
 WORD = b"struct Cell { uint32_t v; };\nCell c;\nint main() { return c.v; }"
 FLIPPED = "turns 10 source 10 inserted 0 blocked 0 idle 0 flips"
+# Nothing is protected, so none that falls is admissible.
+FIRST = "verdict inadmissible flip 1"
 
 
 def comment(front, size):
@@ -40,6 +42,9 @@ def comment(front, size):
 def noted(front, size):
     """A plan of so many bytes that ends in a comment."""
     return front + b"#" + b"x" * (size - len(front) - 1)
+
+
+FREE = b"free 0 0 0 0\n"
 
 
 def flips(count, line=b"flip 7 0 0 0\n"):
@@ -67,9 +72,17 @@ BUILT = [
     ("exec", {"x.plan": flips(99999) + b"flip 0 0 0 64\nflip\n"}, 1, refused("x.plan:100002:12", F3)),
     ("exec", {"x.plan": b"limit 5 5\n" + flips(100001)}, 1, refused("x.plan:1:9", "F1: unknown or surplus word")),
     # Each of the most flips falls: of one bit at one moment an even number of times, and an odd one.
-    ("exec", {"a.cc": WORD, "x.plan": flips(100000, b"flip 4 0 0 4\n")}, 0, ["ended 0", f"{FLIPPED} 100000"]),
-    ("exec", {"a.cc": WORD, "x.plan": flips(99999, b"flip 4 0 0 4\n")}, 0, ["ended 16", f"{FLIPPED} 99999"]),
+    ("exec", {"a.cc": WORD, "x.plan": flips(100000, b"flip 4 0 0 4\n")}, 0, ["ended 0", f"{FLIPPED} 100000", FIRST]),
+    ("exec", {"a.cc": WORD, "x.plan": flips(99999, b"flip 4 0 0 4\n")}, 0, ["ended 16", f"{FLIPPED} 99999", FIRST]),
     ("source", {"a.cc": WORD, "x.plan": flips(99999, b"flip 4 0 0 4\n")}, 0, ["ended 0", f"{FLIPPED} 0"]),
+    # Lines with `free` count with them. None falls, since nothing is protected.
+    ("exec", {"x.plan": flips(50000) + FREE * 50000}, 0, ALONE),
+    ("exec", {"a.cc": WORD, "x.plan": flips(0) + FREE * 100000}, 0, ["ended 0", f"{FLIPPED} 0"]),
+    ("source", {"x.plan": flips(99999) + FREE}, 0, ALONE),
+    ("exec", {"x.plan": flips(50000) + FREE * 50001}, 1, refused("x.plan:100003:1", F3)),
+    ("exec", {"x.plan": flips(0) + FREE * 100000 + b"  free x\n"}, 1, refused("x.plan:100003:3", F3)),
+    ("source", {"x.plan": flips(0) + FREE * 99999 + b"free 0 0 0 64\nflip\n"}, 1, refused("x.plan:100002:12", F3)),
+    ("source", {"x.plan": flips(0) + (FREE + b"flip 0 0 0 0\n") * 50000 + b"\n# free\nflip 0 0 0 0\n"}, 1, refused("x.plan:100005:1", F3)),
     # The most turns, in as many items and in as many lines as there are.
     ("exec", {"x.plan": b"limit 100\nturns" + b" 1" * 94 + b" 0*99999906\n"}, 0, [ALONE[0], "turns 100 source 6 inserted 0 blocked 0 idle 94 flips 0"]),
     ("exec", {"x.plan": b"limit 100\n" + b"turns 1*1000000\n" * 99 + b"turns 0*999999\nturns 2\n"}, 4, ["running", "turns 100 source 0 inserted 0 blocked 0 idle 100 flips 0"]),
@@ -118,7 +131,7 @@ BUILT = [
     # Without a plan.
     (["exec", "a.cc"], {"x.plan": None}, 0, ROUND),
     # The words name the files, also in lines of refusals, and may have up to 255 bytes.
-    (["exec", "b.cc", "y.plan"], {"b.cc": WORD, "y.plan": b"limit 100\ncycle 0\nflip 4 0 0 1"}, 0, ["ended 2", f"{FLIPPED} 1"]),
+    (["exec", "b.cc", "y.plan"], {"b.cc": WORD, "y.plan": b"limit 100\ncycle 0\nflip 4 0 0 1"}, 0, ["ended 2", f"{FLIPPED} 1", FIRST]),
     (["exec", "./a.cc", "./x.plan"], {"x.plan": b"limit"}, 1, refused("./x.plan:1:6", "F2: number missing or malformed")),
     (["source", "..plan", "..cc"], {"..plan": PLAN, "..cc": b"int main() {"}, 1, refused("..cc:1:13", "G1: unexpected token")),
     (["exec", "a.plan.cc", "x.cc.plan"], {"a.plan.cc": SMALL, "x.cc.plan": PLAN}, 0, ALONE),
@@ -234,59 +247,19 @@ FAULTY = [
 ]
 
 
-def unescaped(text):
-    return text.encode("latin-1").decode("unicode_escape").encode("latin-1")
-
-
-def in_file(first):
-    """The first line of a summary with the file before its place."""
-    word, _, rest = first.partition(" ")
-    cause, _, place = rest.partition(" ")
-    return f"{word} {cause} a.cc:{place}" if word == "stopped" else first
-
-
-def case_of(block, text):
-    """The runs of a case, as words, files, status, lines and output, and its program, which is `text` where it has none."""
-    lines = block.splitlines()
-    told = [line for line in lines if not line.startswith((INDENT, "#"))]
-    own = [line.removeprefix(INDENT) for line in lines if line.startswith(INDENT)]
-    text = "\n".join(own).encode() if own else text
-    plan = b"".join(unescaped(line[5:]) + b"\n" * line.startswith("plan") for line in told if line.startswith(("plan", "last ")))
-    output = b"".join(unescaped(line.removeprefix("prints ")) for line in told if line.startswith("prints "))
-    status = program.STATUSES.get(told[1].split(" ")[0], 1)
-    wanted = [told[1]] if status == 1 else [in_file(told[1]), told[2]]
-    files = {"a.cc": text, "x.plan": plan}
-    return [(COMMANDS[word], files, status, wanted, output) for word in told[0].split(" ")], text
+def told(command, status, lines):
+    """The lines of an answer, with a verdict where `exec` ran and none is written down."""
+    lacks_verdict = command == "exec" and status in program.STATUSES.values() and len(lines) == 2
+    return [*lines, program.ADMISSIBLE] if lacks_verdict else lines
 
 
 def runs():
-    text = b""
-    for table in CASES:
-        for block in pathlib.Path(table).read_text().split("\n\n"):
-            if any(line.split(" ")[0] in COMMANDS for line in block.splitlines()):
-                case, text = case_of(block, text)
-                yield from case
+    yield from tables.cases(*CASES)
     for command, files, status, lines in [*BUILT, *wide()]:
         words = COMMANDS[command] if isinstance(command, str) else command
-        yield words, {"a.cc": SMALL, "x.plan": PLAN} | files, status, lines, b""
+        yield words, {"a.cc": SMALL, "x.plan": PLAN} | files, status, told(words[0], status, lines), b""
     for words in FAULTY:
         yield words, {"a.cc": SMALL, "x.plan": PLAN, "g.ah": b""}, 2, [USAGE], b""
-
-
-def fault(run):
-    """How a run differs from what is wanted, or nothing."""
-    words, files, status, lines, output = run
-    with tempfile.TemporaryDirectory() as folder:
-        for name, data in files.items():
-            if data is not None:
-                (pathlib.Path(folder) / name).write_bytes(data)
-        came = program.run_words(words, folder)
-    # A run's summary may have further lines.
-    shown = came[2][: len(lines)] if status in program.STATUSES.values() else came[2]
-    if (came[0], came[1], shown) == (status, output, lines):
-        return None
-    text = {name: data[:600] for name, data in files.items() if data is not None}
-    return f"status {came[0]}, {came[1][:80]!r}, {came[2]}; wanted {status}, {output[:80]!r}, {lines}: {words} {text}"
 
 
 # A program with a name of more than 64 bytes, which `source` refuses where it stands.
@@ -299,9 +272,9 @@ def differing(path):
         (pathlib.Path(folder) / "a.cc").write_bytes(path.read_bytes())
         (pathlib.Path(folder) / "x.plan").write_bytes(DEFAULT)
         came = [program.run_words(words, folder) for words in (["exec", "a.cc"], *COMMANDS.values())]
-    # The summary of `source` may be shorter.
-    first, second, source = [(status, output, lines[:2]) for status, output, lines in came]
-    agrees = first == second and source == LONG_NAMES.get(path.name, first)
+    first, second, source = came
+    # The summary of `source` has no verdict.
+    agrees = first == second and source == LONG_NAMES.get(path.name, (*first[:2], first[2][:2]))
     return None if agrees else f"{path}: {came}"[:1000]
 
 
@@ -361,7 +334,7 @@ def main():
     program.skip_without("plans")
     table = list(runs())
     with concurrent.futures.ThreadPoolExecutor(program.WORKERS) as pool:
-        faults = [found for found in pool.map(fault, table) if found]
+        faults = [found for found in pool.map(tables.fault, table) if found]
         paths = sorted(pathlib.Path("cases/programs").glob("*.cc"))
         faults += [found for found in pool.map(differing, paths) if found]
         full = FULL_RUNS if pathlib.Path(FULL).exists() else []

@@ -11,6 +11,7 @@ PROGRAM = pathlib.Path(os.environ.get("AGXX", "crates/agxx_main/out/agxx_main"))
 WORKERS = os.cpu_count()
 STATUSES = {"ended": 0, "stopped": 3, "running": 4, "halted": 5}
 COUNTS = re.compile(r"turns (\d+) source (\d+) inserted (\d+) blocked (\d+) idle (\d+) flips 0")
+ADMISSIBLE = "verdict admissible"
 
 
 def run_words(words, folder="."):
@@ -25,8 +26,8 @@ def run_file(name, folder="."):
 
 
 def summary_fault(status, lines):
-    """What is wrong with the summary of a run, whatever it ran."""
-    if len(lines) < 2 or STATUSES.get(lines[0].split(" ")[0]) != status:
+    """What is wrong with the summary of a run by `exec` without a flip, whatever it ran."""
+    if len(lines) != 3 or STATUSES.get(lines[0].split(" ")[0]) != status or lines[2] != ADMISSIBLE:
         return f"status {status} with {lines}"
     counts = COUNTS.fullmatch(lines[1])
     if counts is None or int(counts[1]) != sum(int(counts[i]) for i in range(2, 6)):

@@ -5,9 +5,9 @@ import pathlib
 import tempfile
 
 import program
+from tables import INDENT, in_file
 
 CASES = ("cases/runs.txt", "cases/stops.txt", "cases/inserted.txt")
-INDENT = "    "
 
 LONG = '"' + "a" * 4096 + '"'
 SHORTER = '"' + "a" * 4090 + '"'
@@ -55,13 +55,6 @@ def cases():
                 yield case_of(block)
     for text, first, output in LARGE:
         yield first, None, output, text
-
-
-def in_file(first):
-    """The first line with the file before its place."""
-    word, _, rest = first.partition(" ")
-    cause, _, place = rest.partition(" ")
-    return f"{word} {cause} a.cc:{place}" if word == "stopped" else first
 
 
 def fault(case):

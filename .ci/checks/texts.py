@@ -16,7 +16,7 @@ import program
 PROGRAM = pathlib.Path(os.environ.get("AGXX_TEXT", "crates/agxx_text/out/agxx_text")).resolve()
 SPELLINGS = pathlib.Path("cases/spellings.txt")
 # Tables whose programs stand four blanks further in, and those with a program a line, with the columns that it begins in.
-BLOCKS = ("cases/runs.txt", "cases/stops.txt", "cases/inserted.txt", "cases/plans.txt", "cases/schedules.txt", "cases/flips.txt")
+BLOCKS = [f"cases/{name}.txt" for name in ("runs", "stops", "inserted", "plans", "schedules", "flips", "verdicts")]
 ROWS = {"cases/refusals.txt": 12, "cases/grammar.txt": 20}
 FOLDERS = {"cases/programs": "*.cc", "examples": "**/*.cc"}
 COMPILER = ["g++", "-std=c++20", "-Wall", "-Wextra", "-pthread"]
