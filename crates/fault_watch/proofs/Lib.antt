@@ -6,5 +6,5 @@ mod MarkSets
 mod Depths
 mod Dues
 mod Firsts
-mod Orders
+pub mod Orders
 pub mod Waits
