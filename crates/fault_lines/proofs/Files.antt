@@ -137,8 +137,11 @@ filed-stays m fs ws more f same k (inr h) = inr (h.0, stays-each m fs ws more h.
 filed-one : (m : Total) (f : PlannedFlip) (ws mid : List Waiter) → Files m f ws mid → IsFiled m mid f
 filed-one m f ws mid (inl k) = inl k.0
 filed-one m f ws mid (inr k) =
-    inr (k.0, k.1.1 f.object.0 k.0 f.number
-    ∙ ap (λ b. if b then Some f else waits ws f.object.0 k.0 f.number) (spot-self f.object.0 k.0 f.number))
+    inr (
+      k.0,
+      k.1.1 f.object.0 k.0 f.number
+          ∙ ap (λ b. if b then Some f else waits ws f.object.0 k.0 f.number) (spot-self f.object.0 k.0 f.number),
+    )
 
 pub each-filed : (m : Total) (fs : List PlannedFlip) (ws more : List Waiter) (f : PlannedFlip) → TellsApart fs f → FilesEach m fs ws more
     → IsIn fs f → IsFiled m more f

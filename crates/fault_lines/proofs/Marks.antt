@@ -106,7 +106,7 @@ tells-flip : (marks : Marks) (p : Progress) (f : PlannedFlip) → Tells marks p
 tells-flip marks p f h = record {
   hits = marked-is p.total f marks p.hits h.hits h.out (flipped_of f.object.0 f.word f.bit p.total).1;
   out = λ o class e. clear-after (flipped_of f.object.0 f.word f.bit p.total).1 p.total f p.hits h.out o class
-    (sym (inside-flipped f.object.0 f.word f.bit p.total o class) ∙ e);
+      (sym (inside-flipped f.object.0 f.word f.bit p.total o class) ∙ e);
 }
 
 -- ---- turns
@@ -155,14 +155,14 @@ tells-turn : (marks : Marks) (p : Progress) (m : Machine) (t : ℕ) → p.total 
     → Tells (cleared_by m.setting (thread_at (next m t).0.threads t) marks) (with_turn t p)
 tells-turn marks p m t e h = record {
   hits = λ o class.
-    cleared-is m.setting (thread_at (next m t).0.threads t) marks o class
-    ∙ left-hit (is_top_on m.setting o class (thread_at (next m t).0.threads t)) (is_inside (reading m) o class)
-    (is_inside (reading (next m t).0) o class) (marks o class) (p.hits o class)
-    (stays-change.comes m t o class)
-    (λ q. top-is-inside (next m t).0 t o class (ap (λ s. is_top_on s o class (thread_at (next m t).0.threads t)) (stays-change.setting m t) ∙ q))
-    (h.hits o class)
-    (λ q. h.out o class (ap (λ x. is_inside x o class) e ∙ q))
-    ∙ sym (ap (λ x. is_hit (while_out x p.hits o class)) (turn-reads p m t e));
+      cleared-is m.setting (thread_at (next m t).0.threads t) marks o class
+      ∙ left-hit (is_top_on m.setting o class (thread_at (next m t).0.threads t)) (is_inside (reading m) o class)
+      (is_inside (reading (next m t).0) o class) (marks o class) (p.hits o class)
+      (stays-change.comes m t o class)
+      (λ q. top-is-inside (next m t).0 t o class (ap (λ s. is_top_on s o class (thread_at (next m t).0.threads t)) (stays-change.setting m t) ∙ q))
+      (h.hits o class)
+      (λ q. h.out o class (ap (λ x. is_inside x o class) e ∙ q))
+      ∙ sym (ap (λ x. is_hit (while_out x p.hits o class)) (turn-reads p m t e));
   out = λ o class q. ap (λ b. if b then [] else p.hits o class) q;
 }
 

@@ -49,7 +49,6 @@ module _ (w : LinesAreWoken) (m : Total) (f : PlannedFlip) (fs : List PlannedFli
     (is_for : IsNowFor m f k)
     (added : (o : ℕ) (c : Option ClassId) (n : ℕ) → waits mid o c n ≡ (if is_spot o c n f.object.0 k f.number then Some f else waits ws o c n))
     (once : WaitsOnce ws) (right : IsRight m (f ∷ fs) ws) where
-
   -- the line itself waited there before, if it waited
   same-place : (o : ℕ) (c d : Option ClassId) (n : ℕ) (g : PlannedFlip) → IsThere f k o c n g → waits ws o d n ≡ Some g → c ≡ d
   same-place o c d n g t e =

@@ -26,8 +26,7 @@ not-last : {P : Type 0} (o n : ℕ) → o < n → o ≡ n → P
 not-last o n l e = absurd (omega (arith, l, e))
 
 module _ (w : LinesAreWoken) (n t : ℕ) (m : Machine) (hits : Hits) (ahead : List PlannedFlip) (q after : Queues)
-  (s : AreSettled n (reading m) hits ahead q) (k : Takes m t q after) where
-
+    (s : AreSettled n (reading m) hits ahead q) (k : Takes m t q after) where
   -- the machine after the turn, and its hits
   abbrev now : Total
   now = reading (next m t).0
@@ -127,9 +126,9 @@ module _ (w : LinesAreWoken) (n t : ℕ) (m : Machine) (hits : Hits) (ahead : Li
       go (inr on) =
           led f class free a (w.keeps_for m t f class h)
           (k.parts f.object.0 class f.number f
-            (subst (λ c. is_top_on m.setting f.object.0 c (thread_at m.threads t) ≡ true)
-              (w.one_part (reading m) f l.class class l.on on) l.top)
-            l.gone e)
+          (subst (λ c. is_top_on m.setting f.object.0 c (thread_at m.threads t) ≡ true)
+          (w.one_part (reading m) f l.class class l.on on) l.top)
+          l.gone e)
 
   woken : (f : PlannedFlip) (c : Option ClassId) → f.waits ≡ true → is_admissible now hit f ≡ true
       → waits after.waiting f.object.0 c f.number ≡ Some f → IsFor (reading m) f c

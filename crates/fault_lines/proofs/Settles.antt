@@ -209,12 +209,15 @@ settles-from : SomeLinesAreEnough → LinesAreWoken → (turn : ℕ) (p : Progre
     → GoesThrough turn p q after → IsSettledFrom turn p q after (map line_of ahead)
 settles-from e w turn p ahead q after r g =
     let a = e.alike turn p ahead (gone_through turn q) (enough turn p ahead q r) in
-    let s = e.still turn (gone_through turn q) (none_ahead p) in
-    (
+    let s = e.still turn (gone_through turn q) (none_ahead p) in (
       a.left,
-      (a.left_is,
-      (behind-settles w turn p (after_lines turn (map line_of ahead) p) ahead a.left a.kept q after (behind turn p ahead q after r g a s),
-      all-alike turn p ahead q after r g a s)),
+      (
+        a.left_is,
+        (
+          behind-settles w turn p (after_lines turn (map line_of ahead) p) ahead a.left a.kept q after (behind turn p ahead q after r g a s),
+          all-alike turn p ahead q after r g a s,
+        ),
+      ),
     )
 
 pub moments-settle : SomeLinesAreEnough → LinesAreWoken → MomentsSettle

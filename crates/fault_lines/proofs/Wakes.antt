@@ -149,9 +149,12 @@ dead-without m f h e = (h, inr (λ class on. no-some (part_word_of m f) on.word 
 
 pub dead-beyond : (m : Total) (f : PlannedFlip) (w : PartWord) → f.object.0 < m.made → part_word_of m f ≡ Some w
     → nat_lt f.bit (width w.word.kind) ≡ false → IsDead m f
-dead-beyond m f w h e q = (h, inr (λ class on. clash (sym q
-  ∙ ap (λ (v : PartWord). nat_lt f.bit (width v.word.kind)) (same-word (part_word_of m f) w on.word e on.is_word)
-  ∙ on.is_bit)))
+dead-beyond m f w h e q = (
+  h,
+  inr (λ class on. clash (sym q
+      ∙ ap (λ (v : PartWord). nat_lt f.bit (width v.word.kind)) (same-word (part_word_of m f) w on.word e on.is_word)
+      ∙ on.is_bit)),
+)
 
 for-or-dead : (m : Total) (f : PlannedFlip) → f.object.0 < m.made → (found : Option PartWord) → part_word_of m f ≡ found
     → ((class : ClassId) × IsFor m f (Some class)) ⊎ IsDead m f
@@ -178,9 +181,10 @@ part-stays : (m : Machine) (t : ℕ) (f : PlannedFlip) → class_at (next m t).0
 part-stays m t f e = λ i. part_word_at (stays-change.setting m t i) (e i) f.word
 
 keeps-for : (m : Machine) (t : ℕ) (f : PlannedFlip) (class : ClassId) → IsFor (reading m) f (Some class) → IsFor (later m t) f (Some class)
-keeps-for m t f class h =
-    (still-made f.object.0 (length m.world.objects) (length (next m t).0.world.objects) (grows m t) h.0,
-    go (stays-change.class m t f.object.0) h.1)
+keeps-for m t f class h = (
+  still-made f.object.0 (length m.world.objects) (length (next m t).0.world.objects) (grows m t) h.0,
+  go (stays-change.class m t f.object.0) h.1,
+)
   where
     go : Classes m t f.object.0
         → (class_at m.world f.object.0 ≡ None) ⊎ IsOn (reading m) class f
@@ -191,9 +195,10 @@ keeps-for m t f class h =
     go (inr (inr e)) x = not-last f.object.0 (length m.world.objects) h.0 e.0
 
 keeps-dead : (m : Machine) (t : ℕ) (f : PlannedFlip) → IsDead (reading m) f → IsDead (later m t) f
-keeps-dead m t f h =
-    (still-made f.object.0 (length m.world.objects) (length (next m t).0.world.objects) (grows m t) h.0,
-    go (stays-change.class m t f.object.0) h.1)
+keeps-dead m t f h = (
+  still-made f.object.0 (length m.world.objects) (length (next m t).0.world.objects) (grows m t) h.0,
+  go (stays-change.class m t f.object.0) h.1,
+)
   where
     go : Classes m t f.object.0
         → (class_at m.world f.object.0 ≡ None) ⊎ IsOff (reading m) f
@@ -253,7 +258,7 @@ wakes m t hits f p q = go (stays-change.class m t f.object.0)
   where
     go : Classes m t f.object.0 → IsLeft m t f ⊎ IsMade m t f
     go (inl e) = inl (left-by m t hits f (part_word_of (reading m) f) refl p
-      (sym (ap (is_admissible_at (later m t) (while_out (later m t) hits) f.object.0 f.bit) (part-stays m t f e)) ∙ q))
+        (sym (ap (is_admissible_at (later m t) (while_out (later m t) hits) f.object.0 f.bit) (part-stays m t f e)) ∙ q))
     go (inr (inl e)) = clash (sym (none-admits (later m t) (while_out (later m t) hits) f e) ∙ q)
     go (inr (inr e)) = inr (record { object = e.0; made = e.1 })
 

@@ -124,8 +124,10 @@ module _ (f : PlannedFlip) (p : Progress) (m : Machine) (w : Watched) (kept : Li
       counts = s.counts ∙ ap (λ (x : Watched). counts_of x.counts) (sym h.1.0);
       erased = s.erased ∙ ap (λ (x : Watched). x.erased) (sym h.1.0);
     },
-    (ap (λ x. x ++ line_of f ∷ []) a ∙ sym (map-one-more kept f) ∙ ap (map line_of) (sym h.1.1),
-    ap (λ (x : Watched). x.queues) h.1.0),
+    (
+      ap (λ x. x ++ line_of f ∷ []) a ∙ sym (map-one-more kept f) ∙ ap (map line_of) (sym h.1.1),
+      ap (λ (x : Watched). x.queues) h.1.0,
+    ),
   )
 
   falls-through : Falls f m w kept now after more → Through true

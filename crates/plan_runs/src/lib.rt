@@ -21,4 +21,3 @@ pub use report::{Report, RunError};
 pub use runs::{run_plan, run_unflipped};
 pub use target::Target;
 pub use watch::Watch;
-

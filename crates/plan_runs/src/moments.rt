@@ -61,11 +61,7 @@ fn go_through<H: Heap>(
 }
 
 /// Lets a line wait for what it has to wait for, if it can ever fall.
-fn file<H: Heap>(
-    engine: &Engine<'_, H>,
-    watch: &mut Watch,
-    flip: PlannedFlip,
-) -> Result<(), Memory>
+fn file<H: Heap>(engine: &Engine<'_, H>, watch: &mut Watch, flip: PlannedFlip) -> Result<(), Memory>
     ensures { OnOk result (FilesLine (reading engine.now) flip watch.old watch.new) }
 {
     match place_of(engine, &flip) {

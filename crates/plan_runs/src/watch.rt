@@ -209,7 +209,12 @@ impl Watch {
     }
 
     /// No part of these is hit any more.
-    pub(crate) fn clear(&mut self, setting: &Setting, object: Option<ObjectId>, own: Option<ClassId>)
+    pub(crate) fn clear(
+        &mut self,
+        setting: &Setting,
+        object: Option<ObjectId>,
+        own: Option<ClassId>,
+    )
         ensures { IsCleared setting.now (option_map number_of object) own self.old self.new }
     {
         self.marks.clear(setting, object, own);

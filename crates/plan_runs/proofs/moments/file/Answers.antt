@@ -9,5 +9,5 @@ pub returns-in-Part : goal.returns-in-Part
 returns-in-Part g c =
     on_ok_weaker c.wait-in-Part.result
     (λ (a : Adds (Some c.in-Part.class) c.args.flip c.args.watch.now c.wait-in-Part.new.self).
-      record { files = inr (Some c.in-Part.class, (c.in-Part.ensures, a.added)); all_else = a.all_else })
+    record { files = inr (Some c.in-Part.class, (c.in-Part.ensures, a.added)); all_else = a.all_else })
     c.wait-in-Part.ensures

@@ -10,8 +10,8 @@ pub returns : goal.returns
 returns g c =
     on_ok_weaker c.file_all.result
     (λ (h : FilesLines (reading c.go_through.new.engine) c.as_slice.result.now c.go_through.new.watch c.file_all.new.watch).
-      takes-flips c.args.turn c.args.engine.now c.args.watch.now c.gather.new.self c.go_through.new.engine c.go_through.new.watch
-      c.file_all.new.watch c.in_ok-kept.kept.items c.in_ok-gather.ensures c.in_ok-kept.ensures.goes c.in_ok-kept.ensures.queues
-      (subst (λ (x : List PlannedFlip). FilesLines (reading c.go_through.new.engine) x c.go_through.new.watch c.file_all.new.watch)
-      c.as_slice.ensures.value h))
+    takes-flips c.args.turn c.args.engine.now c.args.watch.now c.gather.new.self c.go_through.new.engine c.go_through.new.watch
+    c.file_all.new.watch c.in_ok-kept.kept.items c.in_ok-gather.ensures c.in_ok-kept.ensures.goes c.in_ok-kept.ensures.queues
+    (subst (λ (x : List PlannedFlip). FilesLines (reading c.go_through.new.engine) x c.go_through.new.watch c.file_all.new.watch)
+    c.as_slice.ensures.value h))
     c.file_all.ensures
