@@ -183,6 +183,20 @@ due-alone q m w mid kept f now after more e d g =
     a ∙ ap (λ (x : Watched). x.queues) d ∙ ap (λ (x : Queues). record x { due = mid.queues.due }) e
     ∙ ap (λ (x : Queues). record q { due = x.due }) (sym a)
 
+goes-counts : (f : PlannedFlip) (m : Machine) (w : Watched) (kept : List PlannedFlip) (now : Machine) (after : Watched) (more : List PlannedFlip)
+    → Goes f m w kept now after more → after.counts ≡ w.counts
+goes-counts f m w kept now after more h = go (f.waits && not (target_of (reading m) f (has w.marks)).is_admissible) h
+  where
+    go : (b : Bool) → GoesBy b f m w kept now after more → after.counts ≡ w.counts
+    go true k = ap (λ (x : Watched). x.counts) k.1.0
+    go false k = k.0.counts
+
+pub counts-stay : (first : Watched) (m : Machine) (w mid : Watched) (kept : List PlannedFlip) (f : PlannedFlip) (now : Machine)
+    (after : Watched) (more : List PlannedFlip) → w.counts ≡ first.counts → mid ≡ with_due_lines mid.queues.due w
+    → Goes f m mid kept now after more → after.counts ≡ first.counts
+counts-stay first m w mid kept f now after more e d g =
+    goes-counts f m mid kept now after more g ∙ ap (λ (x : Watched). x.counts) d ∙ e
+
 -- ---- the flips before a turn
 
 module _ (turn : ℕ) (m : Machine) (w : Watched) (now : Machine) (mid after : Watched) (kept : List PlannedFlip)
@@ -240,3 +254,8 @@ pub takes-flips : (turn : ℕ) (m : Machine) (w gone : Watched) (now : Machine) 
 takes-flips turn m w gone now mid after kept g l e h p s =
     takes turn m w now mid after kept (subst (λ x. LeadsTo m x now mid kept) g l)
     (e ∙ ap (λ (x : Watched). without_due x.queues) g) h p s
+
+pub counts-stay-filed : (turn : ℕ) (m : Total) (w gone mid after : Watched) (kept : List PlannedFlip) → gone ≡ gathered turn w
+    → mid.counts ≡ gone.counts → FilesLines m kept mid after → after.counts ≡ w.counts
+counts-stay-filed turn m w gone mid after kept g e h =
+    ap (λ (x : Watched). x.counts) h.all_else ∙ e ∙ ap (λ (x : Watched). x.counts) g

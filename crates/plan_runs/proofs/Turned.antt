@@ -1,5 +1,5 @@
 -- A turn leads from where a run stands to where it stands then.
-use Rattle.std.proofs.Common.{◌≡◌, ◌<◌, ℕ, suc, List, [], ◌∷◌, ◌++◌, length, Bool, true, false, ◌&&◌, Option, Some, None, option_map, refl, ap, sym, subst, ◌∙◌, arith, true≢false}
+use Rattle.std.proofs.Common.{◌≡◌, ◌<◌, ◌+◌, ℕ, suc, List, [], ◌∷◌, ◌++◌, length, Bool, true, false, ◌&&◌, Option, Some, None, option_map, refl, ap, sym, subst, ◌∙◌, arith, true≢false}
 use Rattle.std.proofs.lemmas.Bool.Decides.{nat_tests}
 use Rattle.agxx_base.specs.declared.ids.ClassId.{ClassId}
 use Rattle.agxx_base.specs.declared.ids.ObjectId.{ObjectId}
@@ -10,11 +10,13 @@ use Rattle.step_machine.specs.Setting.{Setting, class_of_function, is_of}
 use Rattle.step_machine.specs.Frame.{Frame, is_object}
 use Rattle.step_machine.specs.Turn.{Thread, thread_at}
 use Rattle.step_machine.specs.Machine.{Machine, Next, next, as_object}
+use Rattle.step_machine.specs.Runs as runs
 use Rattle.step_machine.specs.Runs.{counted}
 use Rattle.step_machine.specs.Total.{Total, NextOf, reading, next_of}
 use Rattle.step_machine.proofs.Turns.{agree}
 use Rattle.step_frame.specs.Works.{number_of}
-use Rattle.step_engine.specs.TurnRuns.{counts_of}
+use Rattle.step_engine.specs.TurnRuns.{counts_of, turns_in}
+use Rattle.step_engine.specs.declared.runs.Counts.{Counts}
 use Rattle.fault_model.specs.Progress.{Progress, with_turn, erased_by}
 use Rattle.fault_model.specs.Stays.{is_top_on}
 use Rattle.fault_model.proofs.Stays.{stays-change}
@@ -176,3 +178,21 @@ takes-turn thread m w mid left after now k top made n c h t l x =
       takes = subst (λ q. Takes m thread q after.queues) (same-queues thread m w mid left now k n c h)
           (takes-from thread m now left after top made (ap (λ (y : Next). y.0) n) t l x);
     }
+
+-- ---- how many turns were taken
+
+abbrev turns-of : runs.Counts → ℕ
+turns-of n = n.source + n.inserted + n.blocked + n.idle
+
+more-counted : (k : StepKind) (a b : Counts) → counts_of a ≡ counted k (counts_of b) → turns_in a ≡ turns_in b + 1
+more-counted kind.Source a b e = let h = ap turns-of e in h ∙ omega arith
+more-counted kind.Inserted a b e = let h = ap turns-of e in h ∙ omega arith
+more-counted kind.Blocked a b e = let h = ap turns-of e in h ∙ omega arith
+more-counted kind.Idle a b e = let h = ap turns-of e in h ∙ omega arith
+
+pub counts-more : (thread : ℕ) (k : StepKind) (m now : Machine) (w mid left after : Watched) (top : Option Top) (made : ℕ)
+    → IsCounted thread k w mid → LeavesParts now thread mid left → WakesBy now thread top made left after
+    → turns_in after.counts ≡ turns_in w.counts + 1
+counts-more thread k m now w mid left after top made c h x =
+    ap (λ (z : Watched). turns_in z.counts) x.wakes.all_else ∙ ap (λ (z : Watched). turns_in z.counts) h.all_else
+    ∙ more-counted k mid.counts w.counts c.counts

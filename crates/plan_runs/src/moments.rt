@@ -52,6 +52,7 @@ fn go_through<H: Heap>(
 ) -> Result<Vec<PlannedFlip>, Memory>
     ensures goes { IfOk result (λ kept. LeadsTo engine.old watch.old engine.new watch.new kept.items) }
     ensures queues { OnOk result (watch.new.queues ≡ without_due watch.old.queues) }
+    ensures counts { OnOk result (watch.new.counts ≡ watch.old.counts) }
 {
     let mut kept = Vec::new(watch.alloc());
     while let Some(flip) = watch.next_due() {
@@ -90,7 +91,8 @@ pub(crate) fn take_flips<H: Heap>(
     watch: &mut Watch,
     turn: u64,
 ) -> Result<(), Memory>
-    ensures { OnOk result (TakesFlips turn engine.old watch.old engine.new watch.new) }
+    ensures takes { OnOk result (TakesFlips turn engine.old watch.old engine.new watch.new) }
+    ensures counts { OnOk result (watch.new.counts ≡ watch.old.counts) }
 {
     watch.gather(turn)?;
     let kept = go_through(engine, watch)?;

@@ -27,7 +27,8 @@ pub(crate) fn take_turn<H: Heap>(
     thread: u32,
 ) -> Result<(), Memory>
     requires { turns_in watch.old.counts + 1 < 2 ^ 64 }
-    ensures { OnOk result (TakesTurn thread engine.old watch.old engine.new watch.new) }
+    ensures takes { OnOk result (TakesTurn thread engine.old watch.old engine.new watch.new) }
+    ensures few { OnOk result (turns_in watch.new.counts ≡ turns_in watch.old.counts + 1) }
 {
     let top = top_of(engine, thread);
     let made = engine.heap().made();
