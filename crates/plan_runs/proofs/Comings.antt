@@ -75,7 +75,12 @@ module _ (settle : MomentsSettle) (ready : TurnsMakeReady) (plan : PlanMeaning) 
 
 -- ---- how many turns were taken
 
+pub room-left : (turn : ℕ) (old mid : Counts) → mid ≡ old → turns_in old ≤ turn → turn + 1 < 2 ^ 64 → turns_in mid + 1 < 2 ^ 64
+room-left turn old mid e l r =
+    let d : turns_in mid ≡ turns_in old = ap (λ (x : Counts). turns_in x) e in
+    omega (arith, d, l, r)
+
 pub few-more : (turn : ℕ) (old mid new : Counts) → mid ≡ old → turns_in old ≤ turn → turns_in new ≡ turns_in mid + 1 → turns_in new ≤ turn + 1
 few-more turn old mid new e l n =
-    let d : turns_in mid ≡ turns_in old = ap turns_in e in
+    let d : turns_in mid ≡ turns_in old = ap (λ (x : Counts). turns_in x) e in
     omega (arith, d, l, n)

@@ -2,6 +2,10 @@ mod Lefts
 mod Falls
 mod Filed
 mod Turned
+mod Wakings
+mod WokenLines
+mod WokenLefts
+mod Lasting
 mod Comings
 mod Overs
 mod Starts

@@ -52,11 +52,6 @@ stands-over plan m n now w l h b =
     let e = over-at (fault_plan plan) (before_first (fault_plan plan) (reading m)) n plan.limit l (runs-as (progress_at plan m n) now false b.stands.total h) in
     subst (λ p. StandsAt p now w) (e ∙ ap (progress_at plan m) (same-min plan.limit)) b.stands
 
-pub stands-all : (plan : PlanMeaning) (m : Machine) (n : ℕ) (now : Machine) (w : Watched) → n ≡ plan.limit
-    → StandsBefore n (progress_at plan m n) now w → StandsAt (planned plan m) now w
-stands-all plan m n now w l b =
-    subst (λ p. StandsAt p now w) (ap (progress_at plan m) (l ∙ same-min plan.limit)) b.stands
-
 -- ---- where it goes on
 
 pub stands-next : (plan : PlanMeaning) (m : Machine) (n : ℕ) (mid : Machine) (half : Watched) (now : Machine) (w : Watched)

@@ -1,11 +1,15 @@
 -- Where a run stands before the first turn.
-use Rattle.std.proofs.Common.{◌≡◌, ◌<◌, ◌≤◌, ℕ, suc, nat_eq, cond, List, [], ◌∷◌, Bool, true, false, Option, Some, None, inl, inr, refl, ap, sym, subst, ◌∙◌, arith, zero-le}
+use Rattle.std.proofs.Common.{◌≡◌, ◌<◌, ◌≤◌, ◌+◌, ℕ, suc, nat_eq, cond, List, [], ◌∷◌, Bool, true, false, Option, Some, None, inl, inr, refl, ap, sym, subst, ◌∙◌, arith, zero-le}
 use Rattle.std.proofs.lemmas.Bool.Decides.{nat_tests}
 use Rattle.agxx_base.specs.declared.ids.ClassId.{ClassId}
 use Rattle.flip_plan.specs.declared.flip.PlannedFlip.{PlannedFlip}
 use Rattle.flip_plan.specs.Plans.{PlanMeaning, IsNumbered}
 use Rattle.step_machine.specs.Machine.{Machine}
 use Rattle.step_machine.specs.Total.{reading}
+use Rattle.step_machine.specs.Runs as runs
+use Rattle.step_machine.specs.Runs.{nothing_counted}
+use Rattle.step_engine.specs.TurnRuns.{counts_of, turns_in}
+use Rattle.step_engine.specs.declared.runs.Counts.{Counts}
 use Rattle.fault_model.specs.PlanLines.{fault_plan}
 use Rattle.fault_model.specs.Admissible.{no_hits}
 use Rattle.fault_model.specs.Progress.{Progress, before_first}
@@ -104,3 +108,8 @@ begins plan m w b = record {
   ahead_is = refl;
   ready = ready-first plan m w b;
 }
+
+pub none-counted : (c : Counts) → counts_of c ≡ nothing_counted → turns_in c ≤ 0
+none-counted c e =
+    let d : turns_in c ≡ 0 = ap (λ (x : runs.Counts). x.source + x.inserted + x.blocked + x.idle) e in
+    omega (arith, d)
