@@ -103,12 +103,12 @@ woven_summary file s r v = summary file s r ++ verdict_text v ++ 10 ∷ []
 abbrev pub ran_answer : List ℕ → Setting → Ran → ℕ → Answer
 ran_answer file s r flips = record { status = run_status r.0.state; out = r.0.world.output; diag = summary file s (report_of r flips) }
 
+-- of a run with its flips
+abbrev pub told_answer : List ℕ → Setting → List ℕ → Report → Verdict → Answer
+told_answer file s out r v = record { status = run_status r.state; out = out; diag = woven_summary file s r v }
+
 abbrev pub progress_answer : List ℕ → Setting → Progress → Answer
-progress_answer file s p = record {
-  status = run_status p.total.state;
-  out = p.total.output;
-  diag = woven_summary file s (report_of_run p) p.verdict;
-}
+progress_answer file s p = told_answer file s p.total.output (report_of_run p) p.verdict
 
 -- run as a woven program, by a plan with its flips,
 abbrev pub woven_run_answer : PlanMeaning → List ℕ → Setting → Answer

@@ -12,8 +12,9 @@ use agxx_base::{Memory, Names, Text};
 use cxx_elaborate::elaborate;
 use cxx_names::Declared;
 use cxx_tree::Program;
+use fault_model::Verdict;
 use flip_plan::Plan;
-use plan_runs::{RunError, Watch};
+use plan_runs::{Report, RunError, Watch};
 use source_steps::SourceRun;
 use std::alloc::Global;
 use step_machine::State;
@@ -31,6 +32,22 @@ fn answer_run(state: State, out: Text, diag: Text) -> Answer
     }
 }
 
+/// What the run of a woven program comes to.
+fn answer_woven(
+    alloc: Global,
+    file: &Text,
+    setting: &Setting,
+    out: Text,
+    report: Report,
+    verdict: Verdict,
+) -> Result<Answer, Memory>
+    ensures { IfOk result (λ answer. answer ≡
+        spec.told_answer file.now setting.now out report verdict) }
+{
+    let diag = woven_summary(alloc, file.bytes(), setting, report, verdict)?;
+    Ok(answer_run(report.state, out, diag))
+}
+
 /// Runs a woven program.
 fn run_woven(alloc: Global, plan: &Plan, file: &Text, setting: &Setting) -> Result<Answer, Memory>
     ensures { IfOk result (λ answer. answer ≡ spec.woven_run_answer plan.now file.now setting.now) }
@@ -40,8 +57,8 @@ fn run_woven(alloc: Global, plan: &Plan, file: &Text, setting: &Setting) -> Resu
     let mut out = Buffer::new(alloc);
     match run.run(plan, &mut out, &mut watch) {
         Ok(report) => {
-            let diag = woven_summary(alloc, file.bytes(), setting, report, watch.verdict())?;
-            Ok(answer_run(report.state, out.into_text(), diag))
+            let verdict = watch.verdict();
+            answer_woven(alloc, file, setting, out.into_text(), report, verdict)
         }
         Err(RunError::Memory | RunError::WriteFault) => Err(Memory),
     }
