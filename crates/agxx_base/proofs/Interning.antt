@@ -63,9 +63,9 @@ at-number (name ∷ names) text known = by (bytes_eq text name) refl (at-number 
     by false e rest = rw (e, one-more (number_of names text)) (rest (sym (ap (λ b. b || is_known names text) e) ∙ known))
 
 -- a new text gets the length as its number
-pub number-new : (names : List (List ℕ)) (text : List ℕ) → is_known names text ≡ false → number_of names text ≡ length names
-number-new [] text new = refl
-number-new (name ∷ names) text new = by (bytes_eq text name) refl (number-new names text)
+pub number_new : (names : List (List ℕ)) (text : List ℕ) → is_known names text ≡ false → number_of names text ≡ length names
+number_new [] text new = refl
+number_new (name ∷ names) text new = by (bytes_eq text name) refl (number_new names text)
   where
     by : (same : Bool) → bytes_eq text name ≡ same → (is_known names text ≡ false → number_of names text ≡ length names) → number_of (name ∷ names) text ≡ length (name ∷ names)
     by true e rest = absurd (true≢false (sym (ap (λ b. b || is_known names text) e) ∙ new))
@@ -94,7 +94,7 @@ text-interned names text = by (is_known names text) refl
   where
     by : (known : Bool) → is_known names text ≡ known → slice_get (interned names text) (number_of names text) ≡ Some text
     by true e = rw (interned-known names text e) (at-number names text e)
-    by false e = rw (interned-new names text e, number-new names text e) (at-end names text)
+    by false e = rw (interned-new names text e, number_new names text e) (at-end names text)
 
 -- texts that have numbers keep them
 pub interned-keeps : (names : List (List ℕ)) (text old : List ℕ) (id : ℕ) → slice_get names id ≡ Some old → slice_get (interned names text) id ≡ Some old

@@ -10,7 +10,7 @@ use std::alloc::Global;
 use std::marker::Model;
 
 /// Distinct texts in order of first sight, each with its place in this order as its number, from 0. There are at most
-/// 2^32. To find a text takes the same time however many there are.
+/// 2^32 - 1. To find a text takes the same time however many there are.
 #[derive(Drop)]
 pub struct Names {
     alloc: Global,
@@ -18,14 +18,14 @@ pub struct Names {
 }
 
 impl Model for Names {
-    ghost use Rattle.std.specs.Prelude.{List, ℕ, ◌≤◌, ◌^◌, length, map, vec_items};
+    ghost use Rattle.std.specs.Prelude.{List, ℕ, ◌<◌, ◌^◌, length, map, vec_items};
     ghost use Rattle.agxx_base.specs.Names.{IsDistinct};
 
     ghost Value = { List (List ℕ) };
 
     ghost view = { λ m. map vec_items m.texts.keys };
 
-    ghost invariant = { λ m. (length m.texts.keys ≤ 2 ^ 32) × IsDistinct (map vec_items m.texts.keys) };
+    ghost invariant = { λ m. (length m.texts.keys < 2 ^ 32) × IsDistinct (map vec_items m.texts.keys) };
 }
 
 impl Names {
@@ -42,14 +42,14 @@ impl Names {
     /// How many names have a number.
     pub fn len(&self) -> usize
         ensures len { result ≡ length self.now }
-        ensures few { length self.now ≤ 2 ^ 32 }
+        ensures few { length self.now < 2 ^ 32 }
         ensures distinct { IsDistinct self.now }
     {
         self.texts.len()
     }
 
-    /// The number of a text, which it gets at its first sight. Without memory, and where it would be the 2^32nd number
-    /// after 0, no text gets one.
+    /// The number of a text, which it gets at its first sight. Without memory, and where 2^32 - 1 names have numbers,
+    /// no text gets one.
     pub fn intern(&mut self, text: &[u8]) -> Result<NameId, Memory>
         ensures number { IfOk result (λ id. id.0 ≡ number_of self.old text.now) }
         ensures names { OnOk result (self.new ≡ interned self.old text.now) }
@@ -69,6 +69,24 @@ impl Names {
         ensures { slice_get self.now id.0 ≡ Some result.now }
     {
         self.texts.as_slice()[id.0 as usize].as_slice()
+    }
+
+    /// Whether a text has a number.
+    pub fn knows(&self, text: &[u8]) -> bool
+        ensures { result ≡ is_known self.now text.now }
+    {
+        self.find(text).is_some()
+    }
+
+    /// The number of a text, or how many names there are where it has none.
+    #[tactic(auto, using(crate::proofs::Interning::number_new))]
+    pub fn number(&self, text: &[u8]) -> NameId
+        ensures { result.0 ≡ number_of self.now text.now }
+    {
+        match self.find(text) {
+            Some(id) => id,
+            None => NameId(self.len() as u32),
+        }
     }
 
     // The number of a text that has one.
@@ -93,7 +111,7 @@ impl Names {
         ensures err { OnErr result (self.new ≡ self.old) }
     {
         let index = self.texts.len();
-        if index > u32::MAX as usize {
+        if index >= u32::MAX as usize {
             return Err(Memory);
         }
         self.texts.insert(Vec::from_slice(self.alloc, text)?)?;

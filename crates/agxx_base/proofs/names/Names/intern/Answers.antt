@@ -1,5 +1,5 @@
 use Rattle.std.proofs.Common.{sym}
-use Rattle.agxx_base.proofs.Interning.{at-number, number-new}
+use Rattle.agxx_base.proofs.Interning.{at-number, number_new}
 use Rattle.agxx_base.proofs.names.Names.intern.Goals as goal
 
 pub returns-in-Some-clause-text : goal.returns-in-Some-clause-text
@@ -8,4 +8,4 @@ returns-in-Some-clause-text c =
 
 pub returns-in-None-clause-number : goal.returns-in-None-clause-number
 returns-in-None-clause-number c =
-    simp (number-new c.args.self.now c.args.text.now (sym c.in-None.ensures.known)) c.append.ensures.number
+    simp (number_new c.args.self.now c.args.text.now (sym c.in-None.ensures.known)) c.append.ensures.number
