@@ -1,0 +1,3 @@
+pub mod Aspects
+pub mod GuardFiles
+pub mod Descent

@@ -1,0 +1,12 @@
+pub mod Lists
+pub mod Majority
+pub mod Values
+pub mod Each
+pub mod Names
+pub mod Arithmetic
+pub mod Steps
+pub mod CopyBlocks
+pub mod CopyRuns
+pub mod PartActs
+pub mod BlockTurns
+pub mod Elaboration

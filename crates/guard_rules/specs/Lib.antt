@@ -1,0 +1,12 @@
+pub mod Parts
+pub mod MemberReachedFromOutside
+pub mod Numbered
+pub mod BoolMember
+pub mod TooManyMembers
+pub mod GuardedTwice
+pub mod DeletesItself
+pub mod Nearest
+pub mod ThroughMembers
+pub mod ThroughDeletes
+pub mod Violations
+pub mod FirstFound
