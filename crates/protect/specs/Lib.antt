@@ -1,0 +1,4 @@
+pub mod Kinds
+pub mod GuardedParts
+pub mod Protected
+pub mod GeneratedNames
