@@ -1,0 +1,3 @@
+pub mod EntryBlocks
+pub mod Elaboration
+pub mod Steady
