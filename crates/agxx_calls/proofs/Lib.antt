@@ -1,3 +1,4 @@
 pub mod Meanings
+pub mod Walks
 pub mod Parsed
 pub mod Refused

@@ -1,54 +1,61 @@
 -- What follows from what words mean.
-use Rattle.std.proofs.Common.{◌≡◌, ◌↔◌, ℕ, suc, ◌-◌, ◌<◌, Bool, true, false, List, [], ◌∷◌, length, take, drop, slice_index_or, Option, Some, None, Result, Ok, Err, find, ◌&&◌, ◌==◌, IsTrue, OnErr, MatchOption, refl, sym, ap, ◌∙◌, subst, arith}
+use Rattle.std.proofs.Common.{◌≡◌, ◌↔◌, ℕ, suc, ◌+◌, ◌-◌, ◌<◌, ◌≤◌, Bool, true, false, List, [], ◌∷◌, length, take, drop, slice_index_or, Option, Some, None, Result, Ok, Err, find, IsTrue, OnErr, MatchOption, refl, sym, ap, ◌∙◌, subst, arith}
 use Rattle.std.proofs.Math.Seq.{take-length}
 use Rattle.std.specs.Str.{bytes_eq}
 use Rattle.agxx_calls.specs.declared.command.Call.{Call}
 use Rattle.agxx_calls.specs.declared.command.Command.{Command}
 use Rattle.agxx_calls.specs.declared.command.Command.TheVariants as command
 use Rattle.agxx_calls.specs.declared.command.Kind.{Kind}
-use Rattle.agxx_calls.specs.Commands.{word_of, kinds_of, AreNames, files_of, IsMeant, IsNone, Means, HasCall, IsUsage}
+use Rattle.agxx_calls.specs.Commands.{word_of, kinds_of, more_of, most_of, AreNames, files_of, IsMeant, IsNone, Means, HasCall, IsUsage}
 
--- ---- a call has as many files as its command
+-- ---- a call has files as its command has
 
-files-counted : (kinds : List Kind) (words : List (List ℕ)) → AreNames kinds words → length (files_of kinds words) ≡ length kinds
-files-counted [] words n = refl
-files-counted (kind ∷ kinds) [] n = absurd n
-files-counted (kind ∷ kinds) (word ∷ words) n = ap suc (files-counted kinds words n.1)
+map-counted : (k : Kind) (words : List (List ℕ)) → length (files_of [] k words) ≡ length words
+map-counted k [] = refl
+map-counted k (word ∷ words) = ap suc (map-counted k words)
 
-pub call-counted : (words : List (List ℕ)) (call : Call) → Means words call → length call.files ≡ length (kinds_of call.command)
-call-counted [] call m = absurd m
-call-counted (word ∷ names) call m = ap length m.1 ∙ files-counted (kinds_of call.command) names m.0.1
+least-files : (kinds : List Kind) (more : Kind) (most : ℕ) (words : List (List ℕ)) → AreNames kinds more most words → length kinds ≤ length (files_of kinds more words)
+least-files [] more most words n = omega arith
+least-files (kind ∷ kinds) more most [] n = absurd n
+least-files (kind ∷ kinds) more most (word ∷ words) n = let l = least-files kinds more most words n.1 in omega arith
+
+most-files : (kinds : List Kind) (more : Kind) (most : ℕ) (words : List (List ℕ)) → AreNames kinds more most words → length (files_of kinds more words) ≤ length kinds + most
+most-files [] more most words n = let l = map-counted more words in let m = n.0 in omega arith
+most-files (kind ∷ kinds) more most [] n = absurd n
+most-files (kind ∷ kinds) more most (word ∷ words) n = let l = most-files kinds more most words n.1 in omega arith
+
+pub call-least : (words : List (List ℕ)) (call : Call) → Means words call → length (kinds_of call.command) ≤ length call.files
+call-least [] call m = absurd m
+call-least (word ∷ names) call m = subst (λ fs. length (kinds_of call.command) ≤ length fs) (sym m.1) (least-files (kinds_of call.command) (more_of call.command) (most_of call.command) names m.0.1)
+
+pub call-most : (words : List (List ℕ)) (call : Call) → Means words call → length call.files ≤ length (kinds_of call.command) + most_of call.command
+call-most [] call m = absurd m
+call-most (word ∷ names) call m = subst (λ fs. length fs ≤ length (kinds_of call.command) + most_of call.command) (sym m.1) (most-files (kinds_of call.command) (more_of call.command) (most_of call.command) names m.0.1)
 
 -- ---- words mean one call
 
--- names of as many kinds
-names-counted : (kinds : List Kind) (words : List (List ℕ)) → AreNames kinds words → length words ≡ length kinds
-names-counted [] [] n = refl
-names-counted [] (word ∷ words) n = absurd n
-names-counted (kind ∷ kinds) [] n = absurd n
-names-counted (kind ∷ kinds) (word ∷ words) n = ap suc (names-counted kinds words n.1)
-
--- each command is found by its word and how many files it has, so no two have both alike
+-- each command is found by its word
 abbrev commands : List Command
-commands = command.Exec ∷ command.ExecPlan ∷ command.Source ∷ []
+commands = command.Weave ∷ command.Exec ∷ command.Run ∷ command.Source ∷ []
 
-abbrev found : List ℕ → ℕ → Option Command
-found word n = find (λ c. bytes_eq (word_of c) word && (length (kinds_of c) == n)) commands
+abbrev found : List ℕ → Option Command
+found word = find (λ c. bytes_eq (word_of c) word) commands
 
-row-found : (c : Command) → found (word_of c) (length (kinds_of c)) ≡ Some c
+row-found : (c : Command) → found (word_of c) ≡ Some c
+row-found command.Weave = refl
 row-found command.Exec = refl
-row-found command.ExecPlan = refl
+row-found command.Run = refl
 row-found command.Source = refl
 
-same-command : (a b : Command) → word_of a ≡ word_of b → length (kinds_of a) ≡ length (kinds_of b) → a ≡ b
-same-command a b w l =
-    let e : ◌≡◌ {A = Option Command} (Some a) (Some b) = sym (row-found a) ∙ (ap (λ x. found x (length (kinds_of a))) w ∙ (ap (found (word_of b)) l ∙ row-found b)) in cc
+same-command : (a b : Command) → word_of a ≡ word_of b → a ≡ b
+same-command a b w =
+    let e : ◌≡◌ {A = Option Command} (Some a) (Some b) = sym (row-found a) ∙ (ap found w ∙ row-found b) in cc
 
 pub one-call : (words : List (List ℕ)) (a b : Call) → Means words a → Means words b → (a.command ≡ b.command) × (a.files ≡ b.files)
 one-call [] a b m n = absurd m
 one-call (word ∷ names) a b m n =
-    let c : a.command ≡ b.command = same-command a.command b.command (sym m.0.0 ∙ n.0.0) (sym (names-counted (kinds_of a.command) names m.0.1) ∙ names-counted (kinds_of b.command) names n.0.1) in
-    (c, m.1 ∙ (ap (λ x. files_of (kinds_of x) names) c ∙ sym n.1))
+    let c : a.command ≡ b.command = same-command a.command b.command (sym m.0.0 ∙ n.0.0) in
+    (c, m.1 ∙ (ap (λ x. files_of (kinds_of x) (more_of x) names) c ∙ sym n.1))
 
 -- ---- words of which no command is meant
 
@@ -56,9 +63,10 @@ pub none-usage : (word : List ℕ) (names : List (List ℕ)) → IsNone commands
 none-usage word names n call m = not-meant call.command m.0
   where
     not-meant : (c : Command) → IsMeant c word names → ⊥
-    not-meant command.Exec = n.0
-    not-meant command.ExecPlan = n.1.0
-    not-meant command.Source = n.1.1.0
+    not-meant command.Weave = n.0
+    not-meant command.Exec = n.1.0
+    not-meant command.Run = n.1.1.0
+    not-meant command.Source = n.1.1.1.0
 
 -- ---- lists of which the first is taken
 
@@ -80,7 +88,7 @@ has-call (w ∷ ws) command l word item e m =
     let len : length (w ∷ ws) - 1 ≡ length ws = omega arith in
     let rest : take (length (w ∷ ws) - 1) ws ≡ ws = ap (λ k. take k ws) len ∙ take-length ws in
     let meant : IsMeant command w ws = subst (λ z. IsMeant command w z) rest (subst (λ z. IsMeant command z (take (length (w ∷ ws) - 1) ws)) e m) in
-    (record { command = command; files = files_of (kinds_of command) ws }, (meant, refl))
+    (record { command = command; files = files_of (kinds_of command) (more_of command) ws }, (meant, refl))
 
 pub call-meant : {T E : Type 0} (r : Result T E) (words shown : List (List ℕ)) (command : Command) → shown ≡ words → 0 < length shown → (word item : List ℕ) → word ≡ slice_index_or shown 0 item
     → IsMeant command word (take (length shown - 1) (drop 1 shown)) → OnErr r (HasCall words)

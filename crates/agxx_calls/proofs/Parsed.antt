@@ -1,5 +1,5 @@
 -- What `clap` makes of words.
-use Rattle.std.proofs.Common.{◌≡◌, ◌∙◌, ◌==◌, ◌-◌, ℕ, Bool, true, false, List, [], ◌∷◌, Option, Some, None, option_map, map, take, drop, length, codes, refl, sym, ap, subst, arith}
+use Rattle.std.proofs.Common.{◌≡◌, ◌∙◌, ◌-◌, ℕ, Bool, true, List, [], ◌∷◌, Option, Some, None, option_map, map, take, drop, length, codes, refl, sym, ap, subst, arith}
 use Rattle.std.specs.Borrow.{Bor}
 use Rattle.std.specs.Cmp.Lexicographic.{pointwise}
 use Rattle.std.specs.Str.{bytes_eq}
@@ -66,29 +66,3 @@ line-simple = refl
 -- a command's words are taken, and read as they stand
 abbrev pub IsRead : List Text → Type 0
 IsRead words = (takes line_app words ≡ true) × (words_read (subcommand_of line_app words) ≡ Some words)
-
-pub exec-one-taken : (x : ℕ) (xs : Text) → (x == 45) ≡ false → takes line_app (codes "exec" ∷ (x ∷ xs) ∷ []) ≡ true
-unfolding clap_on_literals
-exec-one-taken x xs h = simp h refl
-
-pub exec-one-read : (x : ℕ) (xs : Text) → (x == 45) ≡ false → words_read (subcommand_of line_app (codes "exec" ∷ (x ∷ xs) ∷ [])) ≡ Some (codes "exec" ∷ (x ∷ xs) ∷ [])
-unfolding clap_on_literals
-exec-one-read x xs h = simp h refl
-
-pub exec-two-taken : (x y : ℕ) (xs ys : Text) → (x == 45) ≡ false → (y == 45) ≡ false → takes line_app (codes "exec" ∷ (x ∷ xs) ∷ (y ∷ ys) ∷ []) ≡ true
-unfolding clap_on_literals
-exec-two-taken x y xs ys h k = simp (h, k) refl
-
-pub exec-two-read : (x y : ℕ) (xs ys : Text) → (x == 45) ≡ false → (y == 45) ≡ false
-    → words_read (subcommand_of line_app (codes "exec" ∷ (x ∷ xs) ∷ (y ∷ ys) ∷ [])) ≡ Some (codes "exec" ∷ (x ∷ xs) ∷ (y ∷ ys) ∷ [])
-unfolding clap_on_literals
-exec-two-read x y xs ys h k = simp (h, k) refl
-
-pub source-two-taken : (x y : ℕ) (xs ys : Text) → (x == 45) ≡ false → (y == 45) ≡ false → takes line_app (codes "source" ∷ (x ∷ xs) ∷ (y ∷ ys) ∷ []) ≡ true
-unfolding clap_on_literals
-source-two-taken x y xs ys h k = simp (h, k) refl
-
-pub source-two-read : (x y : ℕ) (xs ys : Text) → (x == 45) ≡ false → (y == 45) ≡ false
-    → words_read (subcommand_of line_app (codes "source" ∷ (x ∷ xs) ∷ (y ∷ ys) ∷ [])) ≡ Some (codes "source" ∷ (x ∷ xs) ∷ (y ∷ ys) ∷ [])
-unfolding clap_on_literals
-source-two-read x y xs ys h k = simp (h, k) refl

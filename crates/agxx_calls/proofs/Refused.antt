@@ -13,9 +13,10 @@ use Rattle.agxx_calls.specs.declared.command.Command.{Command}
 use Rattle.agxx_calls.specs.declared.command.Command.TheVariants as command
 use Rattle.agxx_calls.specs.declared.command.Kind.{Kind}
 use Rattle.agxx_calls.specs.declared.command.Kind.TheVariants as kind
-use Rattle.agxx_calls.specs.Commands.{AreNames, IsName, IsNameOf, IsUsage, Means, kinds_of, word_of}
+use Rattle.agxx_calls.specs.Commands.{AreMore, AreNames, IsName, IsNameOf, IsUsage, Means, kinds_of, more_of, most_of, word_of}
 use Rattle.agxx_calls.specs.Parse.{HasOtherWord, IsPlainWord, line_app, words_read}
-use Rattle.agxx_calls.proofs.Parsed.{IsRead, exec-one-taken, exec-one-read, exec-two-taken, exec-two-read, source-two-taken, source-two-read, line-simple}
+use Rattle.agxx_calls.proofs.Parsed.{IsRead, line-simple}
+use Rattle.agxx_calls.proofs.Walks.{ArePlain, read-weave, read-exec, read-run, read-source, taken-weave, taken-exec, taken-run, taken-source}
 
 -- ---- a command's words are text, and no options
 
@@ -23,14 +24,26 @@ name-of : (k : Kind) (word : Text) → IsNameOf k word → IsName word
 name-of kind.Woven word n = n.name
 name-of kind.Source word n = n.name
 name-of kind.Plan word n = n.name
+name-of kind.Aspects word n = n.name
 
-names-plain : (kinds : List Kind) (words : List Text) → AreNames kinds words → HasOtherWord words → ⊥
-names-plain [] [] n h = h
-names-plain [] (word ∷ words) n h = n
-names-plain (k ∷ kinds) [] n h = n
-names-plain (k ∷ kinds) (word ∷ words) n (inl bad) =
+no-name : (k : Kind) → IsNameOf k [] → ⊥
+no-name kind.Woven n = let l = n.more in absurd (omega arith)
+no-name kind.Source n = let l = n.more in absurd (omega arith)
+no-name kind.Plan n = let l = n.more in absurd (omega arith)
+no-name kind.Aspects n = let l = n.more in absurd (omega arith)
+
+more-plain : (k : Kind) (words : List Text) → AreMore k words → HasOtherWord words → ⊥
+more-plain k [] n h = h
+more-plain k (word ∷ words) n (inl bad) =
     let name = name-of k word n.0 in bad (name.no_option, name.text)
-names-plain (k ∷ kinds) (word ∷ words) n (inr rest) = names-plain kinds words n.1 rest
+more-plain k (word ∷ words) n (inr rest) = more-plain k words n.1 rest
+
+names-plain : (kinds : List Kind) (more : Kind) (most : ℕ) (words : List Text) → AreNames kinds more most words → HasOtherWord words → ⊥
+names-plain [] more most words n h = more-plain more words n.1 h
+names-plain (k ∷ kinds) more most [] n h = n
+names-plain (k ∷ kinds) more most (word ∷ words) n (inl bad) =
+    let name = name-of k word n.0 in bad (name.no_option, name.text)
+names-plain (k ∷ kinds) more most (word ∷ words) n (inr rest) = names-plain kinds more most words n.1 rest
 
 more-ascii : (b : ℕ) (bs : Text) → b < 128 → IsAscii bs → IsAscii (b ∷ bs)
 more-ascii b bs l h zero = l
@@ -44,21 +57,35 @@ source-ascii : IsAscii (codes "source")
 source-ascii = more-ascii 115 (codes "ource") (omega arith) (more-ascii 111 (codes "urce") (omega arith) (more-ascii 117 (codes "rce") (omega arith)
     (more-ascii 114 (codes "ce") (omega arith) (more-ascii 99 (codes "e") (omega arith) (more-ascii 101 [] (omega arith) IsAscii-nil)))))
 
+weave-ascii : IsAscii (codes "weave")
+weave-ascii = more-ascii 119 (codes "eave") (omega arith) (more-ascii 101 (codes "ave") (omega arith) (more-ascii 97 (codes "ve") (omega arith)
+    (more-ascii 118 (codes "e") (omega arith) (more-ascii 101 [] (omega arith) IsAscii-nil))))
+
+run-ascii : IsAscii (codes "run")
+run-ascii = more-ascii 114 (codes "un") (omega arith) (more-ascii 117 (codes "n") (omega arith) (more-ascii 110 [] (omega arith) IsAscii-nil))
+
 exec-plain : IsPlainWord (codes "exec")
 exec-plain = ((λ e. cc), IsUtf8-from_ascii (codes "exec") exec-ascii)
 
 source-plain : IsPlainWord (codes "source")
 source-plain = ((λ e. cc), IsUtf8-from_ascii (codes "source") source-ascii)
 
+weave-plain : IsPlainWord (codes "weave")
+weave-plain = ((λ e. cc), IsUtf8-from_ascii (codes "weave") weave-ascii)
+
+run-plain : IsPlainWord (codes "run")
+run-plain = ((λ e. cc), IsUtf8-from_ascii (codes "run") run-ascii)
+
 word-plain : (c : Command) → IsPlainWord (word_of c)
+word-plain command.Weave = weave-plain
 word-plain command.Exec = exec-plain
-word-plain command.ExecPlan = exec-plain
+word-plain command.Run = run-plain
 word-plain command.Source = source-plain
 
 other-none : (words : List Text) → HasOtherWord words → IsUsage words
 other-none [] h call m = m
 other-none (word ∷ names) (inl bad) call m = bad (subst IsPlainWord (sym m.0.0) (word-plain call.command))
-other-none (word ∷ names) (inr rest) call m = names-plain (kinds_of call.command) names m.0.1 rest
+other-none (word ∷ names) (inr rest) call m = names-plain (kinds_of call.command) (more_of call.command) (most_of call.command) names m.0.1 rest
 
 pub other-usage : {T : Type 0} (o : Option T) (words : List Text) (Q : T → Type 0) → MatchOption o (HasOtherWord words) Q → o ≡ None → IsUsage words
 other-usage None words Q h e = other-none words h
@@ -77,40 +104,34 @@ is-other x bad = go (x == 45) refl
         let x-is : x ≡ 45 = cc in
         absurd (bad (ap Some x-is))
 
-exec-one : (f : Text) → IsNameOf kind.Woven f → IsRead (codes "exec" ∷ f ∷ [])
-exec-one [] n = let l = n.more in absurd (omega arith)
-exec-one (x ∷ xs) n =
-    let h = is-other x n.name.no_option in
-    (exec-one-taken x xs h, exec-one-read x xs h)
+more-read : (k : Kind) (words : List Text) → AreMore k words → ArePlain words
+more-read k [] n = tt
+more-read k ([] ∷ words) n = absurd (no-name k n.0)
+more-read k ((x ∷ xs) ∷ words) n = (is-other x (name-of k (x ∷ xs) n.0).no_option, more-read k words n.1)
 
-exec-two : (f g : Text) → IsNameOf kind.Woven f → IsNameOf kind.Plan g → IsRead (codes "exec" ∷ f ∷ g ∷ [])
-exec-two [] g n m = let l = n.more in absurd (omega arith)
-exec-two (x ∷ xs) [] n m = let l = m.more in absurd (omega arith)
-exec-two (x ∷ xs) (y ∷ ys) n m =
-    let h = is-other x n.name.no_option in
-    let k = is-other y m.name.no_option in
-    (exec-two-taken x y xs ys h k, exec-two-read x y xs ys h k)
+names-plain-too : (kinds : List Kind) (more : Kind) (most : ℕ) (words : List Text) → AreNames kinds more most words → ArePlain words
+names-plain-too [] more most words n = more-read more words n.1
+names-plain-too (k ∷ kinds) more most [] n = absurd n
+names-plain-too (k ∷ kinds) more most ([] ∷ words) n = absurd (no-name k n.0)
+names-plain-too (k ∷ kinds) more most ((x ∷ xs) ∷ words) n = (is-other x (name-of k (x ∷ xs) n.0).no_option, names-plain-too kinds more most words n.1)
 
-source-two : (f g : Text) → IsNameOf kind.Plan f → IsNameOf kind.Source g → IsRead (codes "source" ∷ f ∷ g ∷ [])
-source-two [] g n m = let l = n.more in absurd (omega arith)
-source-two (x ∷ xs) [] n m = let l = m.more in absurd (omega arith)
-source-two (x ∷ xs) (y ∷ ys) n m =
-    let h = is-other x n.name.no_option in
-    let k = is-other y m.name.no_option in
-    (source-two-taken x y xs ys h k, source-two-read x y xs ys h k)
+plain-read : (c : Command) (x : ℕ) (xs : Text) (words : List Text) → ArePlain ((x ∷ xs) ∷ words) → IsRead (word_of c ∷ (x ∷ xs) ∷ words)
+plain-read command.Weave x xs words p = (taken-weave x xs words p, read-weave x xs words p)
+plain-read command.Exec x xs words p = (taken-exec x xs words p, read-exec x xs words p)
+plain-read command.Run x xs words p = (taken-run x xs words p, read-run x xs words p)
+plain-read command.Source x xs words p = (taken-source x xs words p, read-source x xs words p)
 
-names-read : (c : Command) (names : List Text) → AreNames (kinds_of c) names → IsRead (word_of c ∷ names)
-names-read command.Exec [] n = absurd n
-names-read command.Exec (f ∷ []) n = exec-one f n.0
-names-read command.Exec (f ∷ g ∷ rest) n = absurd n.1
-names-read command.ExecPlan [] n = absurd n
-names-read command.ExecPlan (f ∷ []) n = absurd n.1
-names-read command.ExecPlan (f ∷ g ∷ []) n = exec-two f g n.0 n.1.0
-names-read command.ExecPlan (f ∷ g ∷ h ∷ rest) n = absurd n.1.1
-names-read command.Source [] n = absurd n
-names-read command.Source (f ∷ []) n = absurd n.1
-names-read command.Source (f ∷ g ∷ []) n = source-two f g n.0 n.1.0
-names-read command.Source (f ∷ g ∷ h ∷ rest) n = absurd n.1.1
+-- each command has a file
+some-file : (c : Command) → AreNames (kinds_of c) (more_of c) (most_of c) [] → ⊥
+some-file command.Weave n = n
+some-file command.Exec n = n
+some-file command.Run n = n
+some-file command.Source n = n
+
+names-read : (c : Command) (names : List Text) → AreNames (kinds_of c) (more_of c) (most_of c) names → IsRead (word_of c ∷ names)
+names-read c [] n = absurd (some-file c n)
+names-read c ([] ∷ names) n = absurd (names-plain-too (kinds_of c) (more_of c) (most_of c) ([] ∷ names) n)
+names-read c ((x ∷ xs) ∷ names) n = plain-read c x xs names (names-plain-too (kinds_of c) (more_of c) (most_of c) ((x ∷ xs) ∷ names) n)
 
 call-read : (words : List Text) (call : Call) → Means words call → IsRead words
 call-read [] call m = absurd m

@@ -25,9 +25,12 @@ bare_app = record (new_app (codes "agxx")) {
   };
 }
 
+abbrev pub with_command : Text → App → App
+with_command word app = with_subcommand app (files_app word).top
+
 -- the command line: one command
 abbrev pub line_app : App
-line_app = with_subcommand (with_subcommand bare_app (files_app (codes "exec")).top) (files_app (codes "source")).top
+line_app = with_command (codes "source") (with_command (codes "run") (with_command (codes "exec") (with_command (codes "weave") bare_app)))
 
 -- ---- what `clap` is given, and what it gives
 

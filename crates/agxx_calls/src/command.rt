@@ -14,6 +14,8 @@ pub enum Kind {
     Source,
     /// A plan.
     Plan,
+    /// Aspects.
+    Aspects,
 }
 
 /// A file that a word names.
@@ -26,10 +28,12 @@ pub struct File {
 /// What is to be done.
 #[derive(Clone, Copy, Debug, Drop)]
 pub enum Command {
-    /// Run a program by the plan where none is given.
+    /// Write the woven text of a program with its aspects.
+    Weave,
+    /// Run a program by a plan, or by the default plan where none is given.
     Exec,
-    /// Run a program by a plan.
-    ExecPlan,
+    /// Run the woven text of a program with its aspects by a plan.
+    Run,
     /// Run a program by a plan whose flips are set aside.
     Source,
 }
@@ -48,13 +52,16 @@ impl Kind {
     {
         match self {
             Kind::Woven | Kind::Plan => LARGEST_TEXT,
-            Kind::Source => LARGEST_SOURCE,
+            Kind::Source | Kind::Aspects => LARGEST_SOURCE,
         }
     }
 }
 
 /// Each command.
-pub const COMMANDS: &[Command] = &[Command::Exec, Command::ExecPlan, Command::Source];
+pub const COMMANDS: &[Command] = &[Command::Weave, Command::Exec, Command::Run, Command::Source];
+
+/// How many aspect files there may be.
+pub const MOST_ASPECT_FILES: usize = 64;
 
 impl Command {
     /// Its word.
@@ -62,19 +69,41 @@ impl Command {
         ensures { result.now ≡ spec.word_of self }
     {
         match self {
-            Command::Exec | Command::ExecPlan => "exec",
+            Command::Weave => "weave",
+            Command::Exec => "exec",
+            Command::Run => "run",
             Command::Source => "source",
         }
     }
 
-    /// The kinds of its files, in the order of the words.
+    /// The kinds of its first files, in the order of the words.
     pub fn kinds(self) -> &'static [Kind]
         ensures { result.now ≡ spec.kinds_of self }
     {
         match self {
+            Command::Weave => &[Kind::Source],
             Command::Exec => &[Kind::Woven],
-            Command::ExecPlan => &[Kind::Woven, Kind::Plan],
-            Command::Source => &[Kind::Plan, Kind::Source],
+            Command::Run | Command::Source => &[Kind::Plan, Kind::Source],
+        }
+    }
+
+    /// The kind of the files behind these.
+    pub fn more(self) -> Kind
+        ensures { result ≡ spec.more_of self }
+    {
+        match self {
+            Command::Exec => Kind::Plan,
+            Command::Weave | Command::Run | Command::Source => Kind::Aspects,
+        }
+    }
+
+    /// How many of them there may be.
+    pub fn most(self) -> usize
+        ensures { result ≡ spec.most_of self }
+    {
+        match self {
+            Command::Exec => 1,
+            Command::Weave | Command::Run | Command::Source => MOST_ASPECT_FILES,
         }
     }
 }

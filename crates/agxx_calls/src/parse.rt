@@ -3,7 +3,8 @@
 ghost use Rattle.std.specs.Prelude.{◌≡◌, ◌≢◌, ◌∷◌, ◌++◌, false, map, option_map};
 ghost use Rattle.std.specs.Prelude.{IfOk, MatchOption};
 ghost use Rattle.clap.specs.Words.{app_of, subcommand_rows_of};
-ghost use Rattle.agxx_calls.specs.Commands.{IsUsage};
+ghost use Rattle.agxx_calls.specs.Commands.{IsUsage, word_of};
+ghost use Rattle.agxx_calls.specs.Parse as spec;
 ghost use Rattle.agxx_calls.specs.Parse.{line_app, IsPlainWord, HasOtherWord, words_read};
 
 use crate::command::Command;
@@ -44,22 +45,33 @@ fn add_plain<'a>(mut texts: Vec<&'a str>, words: &'a [Text]) -> Result<Option<Ve
     }
 }
 
-/// The command line: a command's word with files behind it.
+/// A command line with one more command: its word with files behind it.
+fn with_command<'a>(
+    alloc: Global,
+    line: clap::Command<'a>,
+    command: Command,
+) -> Result<clap::Command<'a>, Memory>
+    ensures { IfOk result (λ more. app_of more ≡ spec.with_command (word_of command) (app_of line.entry)) }
+{
+    let word: &'a str = command.word();
+    let files = Arg::new(alloc, "files").action(ArgAction::Append);
+    let files_command = clap::Command::new(alloc, word).arg(files)?;
+    Ok(line.subcommand(files_command)?)
+}
+
+/// The command line: one of the commands.
 fn command_line<'a>(alloc: Global) -> Result<clap::Command<'a>, Memory>
     ensures { IfOk result (λ line. app_of line ≡ line_app) }
 {
-    let exec_word: &'a str = Command::Exec.word();
-    let exec_files = Arg::new(alloc, "files").action(ArgAction::Append);
-    let exec = clap::Command::new(alloc, exec_word).arg(exec_files)?;
-    let source_word: &'a str = Command::Source.word();
-    let source_files = Arg::new(alloc, "files").action(ArgAction::Append);
-    let source = clap::Command::new(alloc, source_word).arg(source_files)?;
     let bare = clap::Command::new(alloc, "agxx")
         .no_binary_name(true)
         .disable_help_flag(true)
         .disable_help_subcommand(true);
-    let line = bare.subcommand(exec)?.subcommand(source)?;
-    Ok(line)
+    let weave = with_command(alloc, bare, Command::Weave)?;
+    let exec = with_command(alloc, weave, Command::Exec)?;
+    let run = with_command(alloc, exec, Command::Run)?;
+    let source = with_command(alloc, run, Command::Source)?;
+    Ok(source)
 }
 
 /// The words that a parse read: the subcommand's name, and its values.

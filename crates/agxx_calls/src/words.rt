@@ -1,7 +1,9 @@
 //! What the words of a command line mean.
 
 ghost use Rattle.std.specs.Prelude.{◌≡◌, ◌≢◌, ◌↔◌, ◌++◌, Some, slice_get, IsTrue, IfOk, OnErr, MatchOption};
-ghost use Rattle.agxx_calls.specs.Commands.{IsName, IsProgramName, IsPlanName, IsNameOf, AreNames};
+ghost use Rattle.agxx_calls.specs.Commands as spec;
+ghost use Rattle.agxx_calls.specs.Commands.{IsName, IsProgramName, IsPlanName, IsAspectName, IsNameOf};
+ghost use Rattle.agxx_calls.specs.Commands.{AreMore, AreNames};
 ghost use Rattle.agxx_calls.specs.Commands.{files_of, IsMeant, IsNone, Means, HasCall, IsUsage};
 
 use crate::command::{COMMANDS, Call, Command, File, Kind};
@@ -41,24 +43,43 @@ fn is_plan_name(word: &[u8]) -> bool
     is_name(word) && 5 < word.len() && &word[word.len() - 5..] == b".plan".as_slice()
 }
 
+fn is_aspect_name(word: &[u8]) -> bool
+    ensures { IsTrue result ↔ IsAspectName word.now }
+{
+    is_name(word) && 3 < word.len() && &word[word.len() - 3..] == b".ah".as_slice()
+}
+
 fn is_name_of(kind: Kind, word: &[u8]) -> bool
     ensures { IsTrue result ↔ IsNameOf kind word.now }
 {
     match kind {
         Kind::Woven | Kind::Source => is_program_name(word),
         Kind::Plan => is_plan_name(word),
+        Kind::Aspects => is_aspect_name(word),
     }
 }
 
-/// Whether words name files of these kinds, in this order.
-fn are_names(kinds: &[Kind], words: &[Text]) -> bool
-    ensures { IsTrue result ↔ AreNames kinds.now words.now }
+/// Whether all words name files of this kind.
+fn are_more(kind: Kind, words: &[Text]) -> bool
+    ensures { IsTrue result ↔ AreMore kind words.now }
+{
+    match words {
+        [] => true,
+        [word, words @ ..] => is_name_of(kind, word.bytes()) && are_more(kind, words),
+    }
+}
+
+/// Whether words name files of these kinds, in this order, and then at most so many more of one kind.
+fn are_names(kinds: &[Kind], more: Kind, most: usize, words: &[Text]) -> bool
+    ensures { IsTrue result ↔ AreNames kinds.now more most words.now }
 {
     match kinds {
-        [] => words.is_empty(),
+        [] => words.len() <= most && are_more(more, words),
         [kind, kinds @ ..] => match words {
             [] => false,
-            [word, words @ ..] => is_name_of(*kind, word.bytes()) && are_names(kinds, words),
+            [word, words @ ..] => {
+                is_name_of(*kind, word.bytes()) && are_names(kinds, more, most, words)
+            }
         },
     }
 }
@@ -67,7 +88,8 @@ fn are_names(kinds: &[Kind], words: &[Text]) -> bool
 fn is_meant(command: Command, word: &[u8], names: &[Text]) -> bool
     ensures { IsTrue result ↔ IsMeant command word.now names.now }
 {
-    word == command.word().as_bytes() && are_names(command.kinds(), names)
+    word == command.word().as_bytes()
+        && are_names(command.kinds(), command.more(), command.most(), names)
 }
 
 /// The first of some commands that these words mean.
@@ -86,23 +108,33 @@ fn first_meant(commands: &[Command], word: &[u8], names: &[Text]) -> Option<Comm
     }
 }
 
+fn file(alloc: Global, kind: Kind, name: &Text) -> Result<File, Memory>
+    ensures { IfOk result (λ made. made ≡ spec.file kind name.now) }
+{
+    let name = Text::from_bytes(alloc, name.bytes())?;
+    Ok(File { kind, name })
+}
+
 /// The files that words name, behind those before them.
 fn add_files(
     alloc: Global,
     mut files: ListOf<File>,
     kinds: &[Kind],
+    more: Kind,
     words: &[Text],
 ) -> Result<ListOf<File>, Memory>
-    ensures { IfOk result (λ added. added ≡ files ++ files_of kinds.now words.now) }
+    ensures { IfOk result (λ added. added ≡ files ++ files_of kinds.now more words.now) }
 {
-    match kinds {
+    match words {
         [] => Ok(files),
-        [kind, kinds @ ..] => match words {
-            [] => Ok(files),
-            [word, words @ ..] => {
-                let name = Text::from_bytes(alloc, word.bytes())?;
-                files.push(File { kind: *kind, name })?;
-                add_files(alloc, files, kinds, words)
+        [word, words @ ..] => match kinds {
+            [] => {
+                files.push(file(alloc, more, word)?)?;
+                add_files(alloc, files, kinds, more, words)
+            }
+            [kind, kinds @ ..] => {
+                files.push(file(alloc, *kind, word)?)?;
+                add_files(alloc, files, kinds, more, words)
             }
         },
     }
@@ -125,7 +157,8 @@ pub fn read_call(alloc: Global, words: &Words) -> Result<Option<Call>, Memory>
         None => Ok(None),
         Some(command) => {
             is_read?;
-            let files = add_files(alloc, ListOf::new(alloc), command.kinds(), names)?;
+            let files = ListOf::new(alloc);
+            let files = add_files(alloc, files, command.kinds(), command.more(), names)?;
             Ok(Some(Call { command, files }))
         }
     }

@@ -1,5 +1,5 @@
 -- The answer that is due: that there is one, and that the answer for words and files is one.
-use Rattle.std.proofs.Common.{◌≡◌, ℕ, ◌≤◌, List, [], Option, Some, None, Result, Ok, Err, refl, sym, ◌∙◌, subst, append-nil, ap, arith}
+use Rattle.std.proofs.Common.{◌≡◌, ℕ, ◌≤◌, List, [], ◌∷◌, drop, Option, Some, None, Result, Ok, Err, refl, sym, ◌∙◌, subst, append-nil, ap, arith}
 use Rattle.std.specs.Prelude.{IfOk, OnErr, take}
 use Rattle.agxx_base.specs.Files.{Listing}
 use Rattle.agxx_base.specs.Sink.{appended}
@@ -15,33 +15,56 @@ use Rattle.agxx_calls.proofs.Meanings.{one-call}
 use Rattle.cxx_lex.proofs.Readings.{always_one}
 use Rattle.flip_plan.specs.Plans.{default_plan}
 use Rattle.agxx_main.specs.declared.answer.Answer.{Answer}
-use Rattle.agxx_main.specs.RunAnswers.{woven_answer, source_answer}
-use Rattle.agxx_main.specs.Answers.{usage, name_at, text_at, OpensAll, IsTextAnswer, IsAnswerOf, IsCallAnswer, no_command, called}
+use Rattle.agxx_main.specs.declared.reply.Reply.{Reply}
+use Rattle.agxx_main.specs.Replies.{answer_of}
+use Rattle.agxx_main.specs.RunAnswers.{woven_answer}
+use Rattle.agxx_main.specs.Answers.{usage, OpensAll}
+use Rattle.agxx_main.specs.Weaving.{Sheet, sheet_at, sources_at, IsSourceAnswer, writes, runs, runs_source}
+use Rattle.agxx_main.specs.CallAnswers.{sheets_of, executes, executes_by, IsAnswerOf, IsCallAnswer, no_command, called}
 use Rattle.agxx_main.specs.Outcome as due
 use Rattle.agxx_main.specs.Outcome.{OpensInTurn, IsDue, HasDue, GetsPrefix, Gets, no_memory, GivesUp, Ends}
 use Rattle.agxx_main.specs.Laws.{IsAlike, same, HasOneAnswer, UsageHasAnswer, CommandHasAnswer, DueIsAnswer}
 use Rattle.agxx_main.proofs.Texts.{has-text, one-text}
+use Rattle.agxx_main.proofs.Sources.{writes-settled, runs-settled, source-settled, some-source, one-source}
 use Rattle.agxx_main.proofs.Opens.{some-plans, one-plans, some-opens-all, one-opens-all, some-in-turn, in-turn-told}
 
 -- ---- each command has an answer for the texts of its files, and one alone
 
-some-of : (c : Command) (files : List File) (texts : List (List ℕ)) → (a : Answer) × IsAnswerOf c files texts a
-some-of command_of.Exec files texts = has-text always_one mode.Woven (woven_answer default_plan) (name_at files 0) (text_at texts 0)
-some-of command_of.ExecPlan files texts =
-    some-plans (name_at files 1) (text_at texts 1) (λ p. IsTextAnswer mode.Woven (woven_answer p) (name_at files 0) (text_at texts 0))
-    (λ p. has-text always_one mode.Woven (woven_answer p) (name_at files 0) (text_at texts 0))
-some-of command_of.Source files texts =
-    some-plans (name_at files 0) (text_at texts 0) (λ p. IsTextAnswer mode.Source (source_answer p) (name_at files 1) (text_at texts 1))
-    (λ p. has-text always_one mode.Source (source_answer p) (name_at files 1) (text_at texts 1))
+some-exec : (program : Sheet) (plans : List Sheet) → (a : Answer) × executes_by program plans a
+some-exec program [] = has-text always_one mode.Woven (woven_answer default_plan) program.name program.text
+some-exec program (plan ∷ rest) =
+    some-plans plan.name plan.text (executes program) (λ p. has-text always_one mode.Woven (woven_answer p) program.name program.text)
 
-one-of : (c : Command) (files : List File) (texts : List (List ℕ)) (a b : Answer) → IsAnswerOf c files texts a → IsAnswerOf c files texts b → IsAlike a b
-one-of command_of.Exec files texts a b = one-text mode.Woven (woven_answer default_plan) (name_at files 0) (text_at texts 0) a b
-one-of command_of.ExecPlan files texts a b =
-    one-plans (name_at files 1) (text_at texts 1) (λ p. IsTextAnswer mode.Woven (woven_answer p) (name_at files 0) (text_at texts 0)) a b
-    (λ p a b. one-text mode.Woven (woven_answer p) (name_at files 0) (text_at texts 0) a b)
-one-of command_of.Source files texts a b =
-    one-plans (name_at files 0) (text_at texts 0) (λ p. IsTextAnswer mode.Source (source_answer p) (name_at files 1) (text_at texts 1)) a b
-    (λ p a b. one-text mode.Source (source_answer p) (name_at files 1) (text_at texts 1) a b)
+one-exec : (program : Sheet) (plans : List Sheet) (a b : Answer) → executes_by program plans a → executes_by program plans b → IsAlike a b
+one-exec program [] a b = one-text mode.Woven (woven_answer default_plan) program.name program.text a b
+one-exec program (plan ∷ rest) a b =
+    one-plans plan.name plan.text (executes program) a b (λ p a b. one-text mode.Woven (woven_answer p) program.name program.text a b)
+
+some-of-sheets : (c : Command) (sheets : List Sheet) → (a : Answer) × IsAnswerOf c sheets a
+some-of-sheets command_of.Weave sheets = some-source always_one writes writes-settled (sources_at sheets 0)
+some-of-sheets command_of.Exec sheets = some-exec (sheet_at sheets 0) (drop 1 sheets)
+some-of-sheets command_of.Run sheets =
+    some-plans (sheet_at sheets 0).name (sheet_at sheets 0).text (λ p. IsSourceAnswer (sources_at sheets 1) (runs p))
+    (λ p. some-source always_one (runs p) (runs-settled always_one p) (sources_at sheets 1))
+some-of-sheets command_of.Source sheets =
+    some-plans (sheet_at sheets 0).name (sheet_at sheets 0).text (λ p. IsSourceAnswer (sources_at sheets 1) (runs_source p))
+    (λ p. some-source always_one (runs_source p) (source-settled p) (sources_at sheets 1))
+
+one-of-sheets : (c : Command) (sheets : List Sheet) (a b : Answer) → IsAnswerOf c sheets a → IsAnswerOf c sheets b → IsAlike a b
+one-of-sheets command_of.Weave sheets a b = one-source writes writes-settled (sources_at sheets 0) a b
+one-of-sheets command_of.Exec sheets a b = one-exec (sheet_at sheets 0) (drop 1 sheets) a b
+one-of-sheets command_of.Run sheets a b =
+    one-plans (sheet_at sheets 0).name (sheet_at sheets 0).text (λ p. IsSourceAnswer (sources_at sheets 1) (runs p)) a b
+    (λ p a b. one-source (runs p) (runs-settled always_one p) (sources_at sheets 1) a b)
+one-of-sheets command_of.Source sheets a b =
+    one-plans (sheet_at sheets 0).name (sheet_at sheets 0).text (λ p. IsSourceAnswer (sources_at sheets 1) (runs_source p)) a b
+    (λ p a b. one-source (runs_source p) (source-settled p) (sources_at sheets 1) a b)
+
+some-of : (c : Command) (files : List File) (texts : List (List ℕ)) → (a : Answer) × IsAnswerOf c (sheets_of files texts) a
+some-of c files texts = some-of-sheets c (sheets_of files texts)
+
+one-of : (c : Command) (files : List File) (texts : List (List ℕ)) (a b : Answer) → IsAnswerOf c (sheets_of files texts) a → IsAnswerOf c (sheets_of files texts) b → IsAlike a b
+one-of c files texts = one-of-sheets c (sheets_of files texts)
 
 -- ---- one that is due
 
@@ -73,19 +96,19 @@ gives-up : (answer : Answer) (out out' diag diag' : Option (List ℕ)) (out_fail
 gives-up answer out out' diag diag' out_failed diag_failed result g = no_memory g.status (no-bytes out out' answer.out g.out_stays) (no-bytes diag diag' answer.diag g.diag_stays)
 
 -- by an answer that was found, or some answer where memory was refused
-pub ends-by : (words : List (List ℕ)) (listed : Option Listing) (before now : ℕ) (out out' diag diag' : Option (List ℕ)) (out_failed diag_failed : Type 0) (r : Result Answer Memory) (result : Status)
-    → IfOk r (IsDue words listed before now) → OnErr r (HasDue words listed before now) → IfOk r (λ a. Gets a out out' diag diag' out_failed diag_failed result) → OnErr r (GivesUp out out' diag diag' result)
+pub ends-by : (words : List (List ℕ)) (listed : Option Listing) (before now : ℕ) (out out' diag diag' : Option (List ℕ)) (out_failed diag_failed : Type 0) (r : Result Reply Memory) (result : Status)
+    → IfOk r (λ x. IsDue words listed before now (answer_of x)) → OnErr r (HasDue words listed before now) → IfOk r (λ x. Gets (answer_of x) out out' diag diag' out_failed diag_failed result) → OnErr r (GivesUp out out' diag diag' result)
     → Ends words listed before now out out' diag diag' out_failed diag_failed result
-ends-by words listed before now out out' diag diag' out_failed diag_failed (Ok a) result d some g m = record { answer = a; due = d; given = g }
+ends-by words listed before now out out' diag diag' out_failed diag_failed (Ok x) result d some g m = record { answer = answer_of x; due = d; given = g }
 ends-by words listed before now out out' diag diag' out_failed diag_failed (Err x) result d some g m =
     record { answer = some.0; due = some.1; given = gives-up some.0 out out' diag diag' out_failed diag_failed result m }
 
 -- ---- words and files have one answer
 
 -- what is answered for a call is answered for one with the same command and files
-moved-call : (listing : Listing) (c d : Command) (files others : List File) (a : Answer) → d ≡ c → others ≡ files → OpensAll listing others (IsAnswerOf d others) a → OpensAll listing files (IsAnswerOf c files) a
+moved-call : (listing : Listing) (c d : Command) (files others : List File) (a : Answer) → d ≡ c → others ≡ files → OpensAll listing others (λ texts. IsAnswerOf d (sheets_of others texts)) a → OpensAll listing files (λ texts. IsAnswerOf c (sheets_of files texts)) a
 moved-call listing c d files others a i j x =
-    subst (λ f. OpensAll listing f (IsAnswerOf c f) a) j (subst (λ k. OpensAll listing others (IsAnswerOf k others) a) i x)
+    subst (λ f. OpensAll listing f (λ texts. IsAnswerOf c (sheets_of f texts)) a) j (subst (λ k. OpensAll listing others (λ texts. IsAnswerOf k (sheets_of others texts)) a) i x)
 
 pub one-answer : HasOneAnswer
 one-answer words files a b (no_command u e) (no_command v f) = same (e ∙ sym f)

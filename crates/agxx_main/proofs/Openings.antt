@@ -3,15 +3,12 @@ use Rattle.std.proofs.Common.{◌≡◌, ◌≤◌, ◌<◌, ◌-◌, ℕ, List,
 use Rattle.std.proofs.Math.Seq.{take-length}
 use Rattle.agxx_base.specs.Files.{Listing}
 use Rattle.agxx_main.specs.declared.answer.Answer.{Answer}
-use Rattle.agxx_base.specs.declared.kind.Mode.TheVariants as mode
 use Rattle.agxx_calls.specs.declared.command.Call.{Call}
-use Rattle.agxx_calls.specs.declared.command.Command.TheVariants as command
-use Rattle.flip_plan.specs.Plans.{default_plan}
-use Rattle.agxx_main.specs.RunAnswers.{woven_answer, source_answer}
 use Rattle.agxx_calls.specs.declared.command.File.{File}
 use Rattle.agxx_main.specs.declared.files.Opened.TheVariants as result
 use Rattle.agxx_calls.specs.Commands.{limit_of}
-use Rattle.agxx_main.specs.Answers.{name_at, text_at, IsTextAnswer, Plans, IsAnswerOf, IsCallAnswer, closed, opened}
+use Rattle.agxx_main.specs.Answers.{closed, opened}
+use Rattle.agxx_main.specs.CallAnswers.{IsCallAnswer}
 use Rattle.agxx_main.specs.Outcome.{Opening, OpensInTurn}
 use Rattle.agxx_main.proofs.Opens.{map-in-turn}
 
@@ -61,29 +58,3 @@ first-opened listed after before between now (f ∷ fs) file item limit call tex
     let q : Opening listed before between file.name (limit_of file.kind) (result.Text text) = subst (λ k. Opening listed before between file.name k (result.Text text)) i o in
     next-opened listed after before between now f fs call texts text a j l m (subst (λ x. Opening listed before between x.name (limit_of x.kind) (result.Text text)) e q)
     (subst (λ z. OpensInTurn after between now fs (λ rest. IsCallAnswer call (z ++ rest)) a) p u)
-
--- ---- what a command answers for texts, where its parts are these
-
-pub exec-called : (call : Call) (texts : List (List ℕ)) (program text : List ℕ) (a : Answer) → call.command ≡ command.Exec
-    → IsTextAnswer mode.Woven (woven_answer default_plan) program text a → program ≡ name_at call.files 0 → text ≡ text_at texts 0 → IsCallAnswer call texts a
-exec-called call texts program text a i x p t =
-    subst (λ c. IsAnswerOf c call.files texts a) (sym i)
-    (subst (λ z. IsTextAnswer mode.Woven (woven_answer default_plan) (name_at call.files 0) z a) t (subst (λ z. IsTextAnswer mode.Woven (woven_answer default_plan) z text a) p x))
-
-pub plan-called : (call : Call) (texts : List (List ℕ)) (program text plan steps : List ℕ) (a : Answer) → call.command ≡ command.ExecPlan → Plans plan steps (λ p. IsTextAnswer mode.Woven (woven_answer p) program text) a
-    → program ≡ name_at call.files 0 → text ≡ text_at texts 0 → plan ≡ name_at call.files 1 → steps ≡ text_at texts 1 → IsCallAnswer call texts a
-plan-called call texts program text plan steps a i x p t q s =
-    subst (λ c. IsAnswerOf c call.files texts a) (sym i)
-    (subst (λ z. Plans (name_at call.files 1) (text_at texts 1) (λ p. IsTextAnswer mode.Woven (woven_answer p) (name_at call.files 0) z) a) t
-    (subst (λ z. Plans (name_at call.files 1) (text_at texts 1) (λ p. IsTextAnswer mode.Woven (woven_answer p) z text) a) p
-    (subst (λ z. Plans (name_at call.files 1) z (λ p. IsTextAnswer mode.Woven (woven_answer p) program text) a) s
-    (subst (λ z. Plans z steps (λ p. IsTextAnswer mode.Woven (woven_answer p) program text) a) q x))))
-
-pub source-called : (call : Call) (texts : List (List ℕ)) (program text plan steps : List ℕ) (a : Answer) → call.command ≡ command.Source → Plans plan steps (λ p. IsTextAnswer mode.Source (source_answer p) program text) a
-    → program ≡ name_at call.files 1 → text ≡ text_at texts 1 → plan ≡ name_at call.files 0 → steps ≡ text_at texts 0 → IsCallAnswer call texts a
-source-called call texts program text plan steps a i x p t q s =
-    subst (λ c. IsAnswerOf c call.files texts a) (sym i)
-    (subst (λ z. Plans (name_at call.files 0) (text_at texts 0) (λ p. IsTextAnswer mode.Source (source_answer p) (name_at call.files 1) z) a) t
-    (subst (λ z. Plans (name_at call.files 0) (text_at texts 0) (λ p. IsTextAnswer mode.Source (source_answer p) z text) a) p
-    (subst (λ z. Plans (name_at call.files 0) z (λ p. IsTextAnswer mode.Source (source_answer p) program text) a) s
-    (subst (λ z. Plans z steps (λ p. IsTextAnswer mode.Source (source_answer p) program text) a) q x))))

@@ -26,7 +26,7 @@ le-true n m e = grind (arith, nat_tests)
 le-false : (n m : ℕ) → nat_le n m ≡ false → m < n
 le-false n m e = grind (arith, nat_tests)
 
-within : (n m : ℕ) → (n ≤ m) ⊎ (m < n)
+pub within : (n m : ℕ) → (n ≤ m) ⊎ (m < n)
 within n m = by_test (nat_le n m) refl
   where
     by_test : (b : Bool) → nat_le n m ≡ b → (n ≤ m) ⊎ (m < n)

@@ -75,7 +75,7 @@ has-text always mode run file text = by-tokens mode run file text (always mode 0
 
 -- ---- a file has one answer, but for where it is told that it is too deep
 
-same-tokens : (mode : Mode) (file : ℕ) (text : List ℕ) (ts us : List Token) (end last : Place) → HasTokens mode file text ts end → HasTokens mode file text us last → (ts ≡ us) × (end ≡ last)
+pub same-tokens : (mode : Mode) (file : ℕ) (text : List ℕ) (ts us : List Token) (end last : Place) → HasTokens mode file text ts end → HasTokens mode file text us last → (ts ≡ us) × (end ≡ last)
 same-tokens mode file text ts us end last a b = one_reading mode file text ts us end last a b
 
 -- what is said of the tokens of a file, by other tokens of it
@@ -84,7 +84,7 @@ moved mode P file text ts us end last a u t p =
     let s = same-tokens mode file text us ts last end u t in
     subst (λ q. P q end a) s.0 (subst (λ q. P us q a) s.1 p)
 
-alike-refusals : (file : List ℕ) (a b : Answer) (r s : Refusal) → a ≡ refused file r → b ≡ refused file s → IsGrammarRule r.rule → IsGrammarRule s.rule → (r ≡ s) ⊎ ((r.rule ≡ G2) ⊎ (s.rule ≡ G2)) → IsAlike a b
+pub alike-refusals : (file : List ℕ) (a b : Answer) (r s : Refusal) → a ≡ refused file r → b ≡ refused file s → IsGrammarRule r.rule → IsGrammarRule s.rule → (r ≡ s) ⊎ ((r.rule ≡ G2) ⊎ (s.rule ≡ G2)) → IsAlike a b
 alike-refusals file a b r s e f g h (inl i) = same (e ∙ ap (refused file) i ∙ sym f)
 alike-refusals file a b r s e f g h (inr i) = deep file r s e f g h i
 
@@ -92,7 +92,7 @@ done-same : (q p : ProgramTree) → ◌≡◌ {A = Outcome Tokens ProgramTree} (
 done-same q p e = cc
 
 -- a program that is read of the same tokens is the same
-same-program : (mode : Mode) (tokens : List Token) (end : Place) (q p : ProgramTree) → IsProgramIn mode tokens end q → IsProgramIn mode tokens end p → q ≡ p
+pub same-program : (mode : Mode) (tokens : List Token) (end : Place) (q p : ProgramTree) → IsProgramIn mode tokens end q → IsProgramIn mode tokens end p → q ≡ p
 same-program mode tokens end q p a b = done-same q p (sym a.1 ∙ b.1)
 
 -- what is answered for a program and one that is read of the same text

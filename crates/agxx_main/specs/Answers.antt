@@ -1,10 +1,8 @@
 -- The whole answer of the program, for words and files that are told.
-use Rattle.std.specs.Prelude.{◌≡◌, ◌≤◌, ◌<◌, ℕ, List, [], ◌∷◌, length, Option, Some, None, slice_get, unwrap_or}
-use Rattle.std.specs.Option.{option_map_or}
+use Rattle.std.specs.Prelude.{◌≡◌, ◌≤◌, ◌<◌, ℕ, List, [], ◌∷◌, length, Option, Some, None}
 use Rattle.agxx_base.specs.Files.{Listing, file_named}
 use Rattle.agxx_base.specs.declared.fault.Refusal.{Refusal}
 use Rattle.agxx_base.specs.declared.kind.Mode.{Mode}
-use Rattle.agxx_base.specs.declared.kind.Mode.TheVariants as mode
 use Rattle.agxx_base.specs.declared.place.Place.{Place}
 use Rattle.agxx_base.specs.declared.rule.Rule.{Rule}
 use Rattle.agxx_base.specs.declared.rule.Rule.TheVariants.{S1}
@@ -15,18 +13,14 @@ use Rattle.cxx_parse.specs.Numbering.{names_of}
 use Rattle.cxx_parse.specs.Parsed.{IsParsed, IsReadAs, IsRefused}
 use Rattle.cxx_normal.specs.Normal.{with_main, normal_among}
 use Rattle.cxx_types.specs.Violations.{refusal_of}
-use Rattle.flip_plan.specs.Plans.{PlanMeaning, default_plan}
+use Rattle.flip_plan.specs.Plans.{PlanMeaning}
 use Rattle.flip_plan.specs.Reading.{plan_of}
 use Rattle.agxx_base.specs.Refusals.{least}
 use Rattle.flip_plan.specs.Rules.{violations_of_plan}
 use Rattle.agxx_main.specs.declared.answer.Answer.{Answer}
-use Rattle.agxx_calls.specs.declared.command.Call.{Call}
-use Rattle.agxx_calls.specs.declared.command.Command.{Command}
-use Rattle.agxx_calls.specs.declared.command.Command.TheVariants as command
 use Rattle.agxx_calls.specs.declared.command.File.{File}
-use Rattle.agxx_calls.specs.Commands.{limit_of, Means, IsUsage}
+use Rattle.agxx_calls.specs.Commands.{limit_of}
 use Rattle.agxx_main.specs.Lines.{usage_line, unreadable_line, refusal_line}
-use Rattle.agxx_main.specs.RunAnswers.{woven_answer, source_answer}
 
 abbrev pub usage : Answer
 usage = record { status = status_of.Usage; out = []; diag = usage_line }
@@ -106,26 +100,3 @@ abbrev pub OpensAll : Listing → List File → (List (List ℕ) → Answer → 
 OpensAll listing [] Then = Then []
 OpensAll listing (file ∷ files) Then =
     Opens file.name (limit_of file.kind) (file_named file.name listing) (λ text. OpensAll listing files (λ texts. Then (text ∷ texts)))
-
--- ---- what each command answers for the texts of its files
-
-abbrev pub name_at : List File → ℕ → List ℕ
-name_at files i = option_map_or (λ file. file.name) (slice_get files i) []
-
-abbrev pub text_at : List (List ℕ) → ℕ → List ℕ
-text_at texts i = unwrap_or (slice_get texts i) []
-
-abbrev pub IsAnswerOf : Command → List File → List (List ℕ) → Answer → Type 0
-IsAnswerOf command.Exec files texts = IsTextAnswer mode.Woven (woven_answer default_plan) (name_at files 0) (text_at texts 0)
-IsAnswerOf command.ExecPlan files texts =
-    Plans (name_at files 1) (text_at texts 1) (λ plan. IsTextAnswer mode.Woven (woven_answer plan) (name_at files 0) (text_at texts 0))
-IsAnswerOf command.Source files texts =
-    Plans (name_at files 0) (text_at texts 0) (λ plan. IsTextAnswer mode.Source (source_answer plan) (name_at files 1) (text_at texts 1))
-
-abbrev pub IsCallAnswer : Call → List (List ℕ) → Answer → Type 0
-IsCallAnswer call = IsAnswerOf call.command call.files
-
--- The answer for these words and files.
-pub data IsAnswer (words : List (List ℕ)) (files : Listing) (answer : Answer) : Type 0 where
-  no_command : IsUsage words → answer ≡ usage → IsAnswer words files answer
-  called : (call : Call) → Means words call → OpensAll files call.files (IsCallAnswer call) answer → IsAnswer words files answer

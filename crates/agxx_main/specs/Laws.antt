@@ -8,7 +8,8 @@ use Rattle.agxx_base.specs.Files.{Listing}
 use Rattle.agxx_main.specs.declared.answer.Answer.{Answer}
 use Rattle.agxx_calls.specs.declared.command.Call.{Call}
 use Rattle.agxx_calls.specs.Commands.{Means, IsUsage}
-use Rattle.agxx_main.specs.Answers.{refused, IsAnswer}
+use Rattle.agxx_main.specs.Answers.{refused}
+use Rattle.agxx_main.specs.CallAnswers.{IsAnswer}
 use Rattle.agxx_main.specs.Outcome.{IsDue}
 
 -- the rules of the grammar of programs

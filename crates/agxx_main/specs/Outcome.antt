@@ -11,7 +11,8 @@ use Rattle.agxx_main.specs.declared.files.Opened.TheVariants as opened
 use Rattle.agxx_calls.specs.declared.command.Call.{Call}
 use Rattle.agxx_calls.specs.declared.command.File.{File}
 use Rattle.agxx_calls.specs.Commands.{limit_of, Means, IsUsage}
-use Rattle.agxx_main.specs.Answers.{usage, IsClosed, Opens, IsCallAnswer}
+use Rattle.agxx_main.specs.Answers.{usage, IsClosed, Opens}
+use Rattle.agxx_main.specs.CallAnswers.{IsCallAnswer}
 
 -- What reading a file may give while the count of faults goes from one number to another: what the list says that is told;
 -- any text where none is told; or nothing, where the count rose.

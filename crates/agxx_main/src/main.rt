@@ -9,10 +9,13 @@ mod commands;
 mod files;
 mod line;
 mod program;
+mod reply;
 mod run;
+mod sheet;
 mod summary;
 mod top;
 mod way;
+mod weave;
 
 use agxx_base::{DiskFiles, Memory, Status, StdSink, Text, Words};
 use std::process::ExitCode;

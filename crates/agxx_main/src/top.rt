@@ -3,40 +3,43 @@
 ghost use Rattle.std.specs.Prelude.{◌≡◌, ◌≤◌, IfOk, OnErr};
 ghost use Rattle.agxx_base.specs.Causes.{Rose};
 ghost use Rattle.agxx_main.specs.Outcome.{IsDue, HasDue, Ends, Gets, GivesUp};
+ghost use Rattle.agxx_main.specs.Replies.{answer_of};
 ghost use Rattle.agxx_main.specs.Laws.{HasOneAnswer, UsageHasAnswer, CommandHasAnswer, DueIsAnswer};
 
 use crate::answer::Answer;
 use crate::commands::answer_call;
+use crate::reply::Reply;
 use agxx_base::{Files, Memory, Sink, Status, Words, write_whole};
 use agxx_calls::read_call;
 use std::alloc::Global;
 
-/// Writes an answer to standard output and then to standard error, or tells that memory was refused.
-fn deliver<O: Sink, E: Sink>(answer: Result<Answer, Memory>, out: &mut O, diag: &mut E) -> Status
-    ensures given { IfOk answer (λ a. Gets a (O.taken out.old) (O.taken out.new)
+/// Writes a reply to standard output and then to standard error, or tells that memory was refused.
+fn deliver<O: Sink, E: Sink>(reply: Result<Reply, Memory>, out: &mut O, diag: &mut E) -> Status
+    ensures given { IfOk reply (λ r. Gets (answer_of r) (O.taken out.old) (O.taken out.new)
         (E.taken diag.old) (E.taken diag.new)
         (Rose (O.faults out.old) (O.faults out.new))
         (Rose (E.faults diag.old) (E.faults diag.new)) result) }
     ensures out_later { O.faults out.old ≤ O.faults out.new }
     ensures diag_later { E.faults diag.old ≤ E.faults diag.new }
-    ensures memory { OnErr answer (GivesUp (O.taken out.old) (O.taken out.new)
+    ensures memory { OnErr reply (GivesUp (O.taken out.old) (O.taken out.new)
         (E.taken diag.old) (E.taken diag.new) result) }
 {
-    let Ok(answer) = answer else {
+    let Ok(reply) = reply else {
         return Status::Memory;
     };
-    if write_whole(out, answer.out.bytes()).is_err() {
+    if reply.write_out(out).is_err() {
         return Status::WriteFault;
     }
-    if write_whole(diag, answer.diag.bytes()).is_err() {
+    if write_whole(diag, reply.diag()).is_err() {
         return Status::WriteFault;
     }
-    answer.status
+    reply.status()
 }
 
 /// What is answered for the words of a command line.
-fn answer<F: Files>(alloc: Global, words: &Words, files: &mut F) -> Result<Answer, Memory>
-    ensures due { IfOk result (IsDue words.now (F.listed files.old) (F.faults files.old) (F.faults files.new)) }
+fn answer<F: Files>(alloc: Global, words: &Words, files: &mut F) -> Result<Reply, Memory>
+    ensures due { IfOk result (λ reply.
+        IsDue words.now (F.listed files.old) (F.faults files.old) (F.faults files.new) (answer_of reply)) }
     // Something is due also where memory was refused.
     ensures some { OnErr result
         (HasDue words.now (F.listed files.old) (F.faults files.old) (F.faults files.new)) }
@@ -45,7 +48,7 @@ fn answer<F: Files>(alloc: Global, words: &Words, files: &mut F) -> Result<Answe
 {
     let call = read_call(alloc, words)?;
     match call {
-        None => Answer::usage(alloc),
+        None => Ok(Reply::Told(Answer::usage(alloc)?)),
         Some(call) => answer_call(alloc, &call, files),
     }
 }

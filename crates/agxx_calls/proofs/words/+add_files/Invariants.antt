@@ -2,4 +2,4 @@ use Rattle.std.proofs.Common.{length}
 use Rattle.agxx_calls.proofs.words.+add_files.Given as goal
 
 abbrev pub decreases-add_files : goal.decreases-add_files
-decreases-add_files l = length l.kinds.now
+decreases-add_files l = length l.words.now

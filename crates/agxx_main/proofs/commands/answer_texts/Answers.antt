@@ -1,16 +1,17 @@
-use Rattle.std.proofs.Common.{rules}
-use Rattle.agxx_main.proofs.Texts.{on-ok}
-use Rattle.agxx_main.proofs.Openings.{exec-called, plan-called, source-called}
+use Rattle.std.proofs.Common.{◌≡◌, ◌∙◌, ap, ap₂, sym, subst, map, length}
+use Rattle.std.specs.List.{All}
+use Rattle.agxx_main.specs.CallAnswers.{HasFiles, sheets_of}
+use Rattle.agxx_main.specs.Replies.{seen}
+use Rattle.agxx_main.proofs.Weavings.{IsShort, sheets-counted, sheets-short, seen-counted}
 use Rattle.agxx_main.proofs.commands.answer_texts.Goals as goal
 
-pub returns-in-Exec : goal.returns-in-Exec
-returns-in-Exec c =
-    on-ok c.exec.result _ _ c.exec.ensures (λ a x. exec-called c.args.call.now c.args.texts.now c.name_at.result.now c.text_at.result.now a c.in-Exec.is x (search rules) (search rules))
+pub answer_sheets-requires-clause-files : goal.answer_sheets-requires-clause-files
+answer_sheets-requires-clause-files c =
+    let s : map seen c.as_slice-3.result.now ≡ sheets_of c.args.call.now.files c.args.texts.now = ap (map seen) c.as_slice-3.ensures.value ∙ (c.in_ok-sheets.ensures ∙ ap₂ sheets_of c.as_slice.ensures c.as_slice-2.ensures) in
+    let n : length c.as_slice-3.result.now ≡ length c.args.call.now.files = seen-counted c.as_slice-3.result.now (sheets_of c.args.call.now.files c.args.texts.now) s ∙ sheets-counted c.args.call.now.files c.args.texts.now c.requires.texts in
+    subst (HasFiles c.args.call.now.command) (sym n) c.requires.files
 
-pub returns-in-ExecPlan : goal.returns-in-ExecPlan
-returns-in-ExecPlan c =
-    on-ok c.exec_plan.result _ _ c.exec_plan.ensures (λ a x. plan-called c.args.call.now c.args.texts.now c.name_at-program.result.now c.text_at-in-ExecPlan.result.now c.name_at-plan.result.now c.text_at-in-ExecPlan-2.result.now a c.in-ExecPlan.is x (search rules) (search rules) (search rules) (search rules))
-
-pub returns-in-Source : goal.returns-in-Source
-returns-in-Source c =
-    on-ok c.source.result _ _ c.source.ensures (λ a x. source-called c.args.call.now c.args.texts.now c.name_at-program-in-Source.result.now c.text_at-in-Source.result.now c.name_at-plan-in-Source.result.now c.text_at-in-Source-2.result.now a c.in-Source.is x (search rules) (search rules) (search rules) (search rules))
+pub answer_sheets-requires-clause-within : goal.answer_sheets-requires-clause-within
+answer_sheets-requires-clause-within c =
+    let s : map seen c.as_slice-3.result.now ≡ sheets_of c.args.call.now.files c.args.texts.now = ap (map seen) c.as_slice-3.ensures.value ∙ (c.in_ok-sheets.ensures ∙ ap₂ sheets_of c.as_slice.ensures c.as_slice-2.ensures) in
+    subst (All IsShort) (sym s) (sheets-short c.args.call.now.files c.args.texts.now c.requires.within)

@@ -1,5 +1,5 @@
-use Rattle.std.proofs.Common.{rules, ◌≡◌, ◌∙◌}
-use Rattle.agxx_main.specs.RunAnswers.{told_answer, woven_run_answer}
+use Rattle.std.proofs.Common.{rules, ◌∙◌}
+use Rattle.agxx_main.specs.RunAnswers.{woven_run_answer}
 use Rattle.agxx_main.proofs.WovenRuns.{told_is, told-also}
 use Rattle.agxx_main.proofs.run.run_woven.Goals as goal
 
