@@ -236,9 +236,6 @@ FAULTY = [
     ["exec", "help"],
     ["x.plan", "exec", "a.cc"],
     # Commands that are not built yet, and aspect files.
-    ["source", "x.plan", "a.cc", "g.ah"],
-    ["run", "x.plan", "a.cc"],
-    ["run", "x.plan", "a.cc", "g.ah"],
     ["weave"],
     ["weave", "-x", "a.cc"],
     ["weave", "a.cc", "b.cc"],

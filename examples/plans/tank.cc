@@ -1,8 +1,8 @@
 class Tank {
     uint32_t litres;
-    bool open;
+    uint8_t open;
 public:
-    Tank() : litres(20), open(true) {}
+    Tank() : litres(20), open(1) {}
     void fill(uint32_t by) {
         if (open) {
             litres += by;

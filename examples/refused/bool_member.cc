@@ -1,0 +1,3 @@
+class Counter { bool on; };
+Counter counter;
+int main() { return 0; }
