@@ -1,0 +1,4 @@
+pub mod Numbered
+pub mod Members
+pub mod Enough
+pub mod Statements

@@ -1,0 +1,5 @@
+pub mod Positions
+pub mod HammingWords
+pub mod HammingNames
+pub mod HammingTrees
+pub mod Hamming
