@@ -1,5 +1,5 @@
 -- The names that two copies generate are names of nothing else.
-use Rattle.std.proofs.Common.{◌≡◌, ◌≢◌, ℕ, zero, suc, ◌+◌, ◌*◌, ◌^◌, ◌<◌, false, List, [], ◌∷◌, ◌++◌, map, length, get_or, drop, codes, refl, sym, ap, ap₂, ◌∙◌, arith, length-append, decimal}
+use Rattle.std.proofs.Common.{◌≡◌, ◌≢◌, ℕ, zero, suc, ◌+◌, ◌*◌, ◌^◌, ◌<◌, false, List, [], ◌∷◌, ◌++◌, map, length, get_or, drop, codes, refl, sym, subst, ap, ap₂, ◌∙◌, arith, length-append, decimal}
 use Rattle.std.specs.List.{All}
 use Rattle.std.proofs.lemmas.Fmt.{decimal_injective}
 use Rattle.agxx_base.specs.Names.{IsDistinct}
@@ -13,7 +13,7 @@ use Rattle.codec.specs.declared.part.Part.{Part}
 use Rattle.codec.specs.Part.{unsigned_kind, unsigned_type, unsigned_of, member_names, texts_of, place_of}
 use Rattle.cxx_make.specs.Generated.{named, text_of}
 use Rattle.codec.specs.Copies.{vote_texts, first_member, second_member, copies}
-use Rattle.codec_laws.specs.PartTexts.{part_texts}
+use Rattle.entry_count.specs.PartCode.{beginning, part_texts}
 use Rattle.codec_laws.specs.Names.{IsGenerated, IsPlain, member_kinds, types_of, CopiesNamesDiffer}
 use Rattle.codec_laws.proofs.Lists.{drop-first}
 use Rattle.codec_laws.proofs.Each.{Each, Apart, each-all, all-each, each-both, each-as, each-map, apart-pairs, pairs-apart, apart-both, apart-map}
@@ -26,6 +26,16 @@ second_text m = codes "__gop_c2_" ++ m
 
 abbrev vote_text : ℕ → List ℕ
 vote_text i = codes "__gop_m_" ++ decimal i
+
+-- the texts of the names of a part's counter, lock and functions, as they are spelled
+abbrev told : List ℕ → List (List ℕ)
+told class =
+    (codes "__gop_n_" ++ class) ∷ (codes "__gop_l_" ++ class) ∷ (codes "__gop_repair_" ++ class)
+    ∷ (codes "__gop_renew_" ++ class) ∷ (codes "__gop_enter_" ++ class) ∷ (codes "__gop_leave_" ++ class) ∷ []
+
+told-is : (class : List ℕ) → told class ≡ part_texts class
+unfolding beginning
+told-is class = refl
 
 -- texts differ where they have other bytes at some place
 other : (i : ℕ) (a b : List ℕ) → get_or a i 0 ≢ get_or b i 0 → a ≢ b
@@ -68,7 +78,7 @@ votes-each P f i (suc k) = (f i, votes-each P f (suc i) k)
 
 -- ---- those of the part
 
-part-apart : (class : List ℕ) → Apart (part_texts class)
+part-apart : (class : List ℕ) → Apart (told class)
 part-apart class = (
   (
     other 6 _ _ (λ e. omega arith),
@@ -105,7 +115,7 @@ part-apart class = (
 from-part : (class text : List ℕ) → ((rest : List ℕ) → text ≢ codes "__gop_n_" ++ rest)
     → ((rest : List ℕ) → text ≢ codes "__gop_l" ++ rest)
     → ((rest : List ℕ) → text ≢ codes "__gop_re" ++ rest) → ((rest : List ℕ) → text ≢ codes "__gop_e" ++ rest)
-    → Each (λ y. text ≢ y) (part_texts class)
+    → Each (λ y. text ≢ y) (told class)
 from-part class text n l r e = (
   n class,
   (
@@ -117,17 +127,17 @@ from-part class text n l r e = (
   ),
 )
 
-first-part : (class m : List ℕ) → Each (λ y. first_text m ≢ y) (part_texts class)
+first-part : (class m : List ℕ) → Each (λ y. first_text m ≢ y) (told class)
 first-part class m =
     from-part class (first_text m) (λ r. other 6 _ _ (λ e. omega arith)) (λ r. other 6 _ _ (λ e. omega arith))
     (λ r. other 6 _ _ (λ e. omega arith)) (λ r. other 6 _ _ (λ e. omega arith))
 
-second-part : (class m : List ℕ) → Each (λ y. second_text m ≢ y) (part_texts class)
+second-part : (class m : List ℕ) → Each (λ y. second_text m ≢ y) (told class)
 second-part class m =
     from-part class (second_text m) (λ r. other 6 _ _ (λ e. omega arith)) (λ r. other 6 _ _ (λ e. omega arith))
     (λ r. other 6 _ _ (λ e. omega arith)) (λ r. other 6 _ _ (λ e. omega arith))
 
-vote-part : (class : List ℕ) (i : ℕ) → Each (λ y. vote_text i ≢ y) (part_texts class)
+vote-part : (class : List ℕ) (i : ℕ) → Each (λ y. vote_text i ≢ y) (told class)
 vote-part class i =
     from-part class (vote_text i) (λ r. other 6 _ _ (λ e. omega arith)) (λ r. other 6 _ _ (λ e. omega arith))
     (λ r. other 6 _ _ (λ e. omega arith)) (λ r. other 6 _ _ (λ e. omega arith))
@@ -135,22 +145,22 @@ vote-part class i =
 -- ---- all of them
 
 abbrev locals : ℕ → List ℕ → List (List ℕ)
-locals k class = vote_texts 1 k ++ part_texts class
+locals k class = vote_texts 1 k ++ told class
 
 locals-apart : (k : ℕ) (class : List ℕ) → k < 2 ^ 32 → Apart (locals k class)
 locals-apart k class h =
-    apart-both (vote_texts 1 k) (part_texts class) (votes-apart 1 k (omega arith)) (part-apart class)
-    (votes-each (λ x. Each (λ y. x ≢ y) (part_texts class)) (vote-part class) 1 k)
+    apart-both (vote_texts 1 k) (told class) (votes-apart 1 k (omega arith)) (part-apart class)
+    (votes-each (λ x. Each (λ y. x ≢ y) (told class)) (vote-part class) 1 k)
 
 words-locals : (k : ℕ) (class : List ℕ) (ms : List (List ℕ))
     → Each (λ x. Each (λ y. x ≢ y) (locals k class)) (map first_text ms ++ map second_text ms)
 words-locals k class ms =
     each-both (λ x. Each (λ y. x ≢ y) (locals k class)) (map first_text ms) (map second_text ms)
     (each-map first_text (λ x. Each (λ y. x ≢ y) (locals k class))
-    (λ m. each-both (λ y. first_text m ≢ y) (vote_texts 1 k) (part_texts class)
+    (λ m. each-both (λ y. first_text m ≢ y) (vote_texts 1 k) (told class)
     (votes-each (λ y. first_text m ≢ y) (λ i. other 6 _ _ (λ e. omega arith)) 1 k) (first-part class m)) ms)
     (each-map second_text (λ x. Each (λ y. x ≢ y) (locals k class))
-    (λ m. each-both (λ y. second_text m ≢ y) (vote_texts 1 k) (part_texts class)
+    (λ m. each-both (λ y. second_text m ≢ y) (vote_texts 1 k) (told class)
     (votes-each (λ y. second_text m ≢ y) (λ i. other 6 _ _ (λ e. omega arith)) 1 k) (second-part class m)) ms)
 
 abbrev all_texts : ℕ → List ℕ → List (List ℕ) → List (List ℕ)
@@ -162,7 +172,7 @@ all-generated k class ms =
     (each-both IsGenerated (map first_text ms) (map second_text ms)
     (each-map first_text IsGenerated (λ m. (codes "c1_" ++ m, refl)) ms)
     (each-map second_text IsGenerated (λ m. (codes "c2_" ++ m, refl)) ms))
-    (each-both IsGenerated (vote_texts 1 k) (part_texts class)
+    (each-both IsGenerated (vote_texts 1 k) (told class)
     (votes-each IsGenerated (λ i. (codes "m_" ++ decimal i, refl)) 1 k) (
       (codes "n_" ++ class, refl),
       (
@@ -279,12 +289,18 @@ module _ (texts : List (List ℕ)) (p : Part) where
       once : Each (λ k. is_signed k ≡ false) (member_kinds p)
       once = each-map unsigned_of (λ k. is_signed k ≡ false) (λ m. unsigned-type m.type_name.item) p.members
 
+-- the same texts with these ones for the part
+abbrev all_with : ℕ → List (List ℕ) → List (List ℕ) → List (List ℕ)
+all_with k ps ms = (map first_text ms ++ map second_text ms) ++ (vote_texts 1 k ++ ps)
+
 pub copies-names-differ : CopiesNamesDiffer
 copies-names-differ = record {
   two = λ k. refl;
   differ = record {
-    generated = λ class ms. each-all IsGenerated (all_texts (length ms) class ms) (all-generated (length ms) class ms);
-    distinct = distinct;
+    generated = λ class ms. subst (λ ps. All IsGenerated (all_with (length ms) ps ms)) (told-is class)
+        (each-all IsGenerated (all_texts (length ms) class ms) (all-generated (length ms) class ms));
+    distinct = λ class ms few differ plain. subst (λ ps. IsDistinct (ms ++ all_with (length ms) ps ms)) (told-is class)
+        (distinct class ms few differ plain);
     names = member-names;
     kinds = member-types;
     unsigned = λ p. each-all (λ k. is_signed k ≡ false) (copies.kinds (member_kinds p)) (unsigned [] p);

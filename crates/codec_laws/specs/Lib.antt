@@ -1,4 +1,3 @@
-pub mod PartTexts
 pub mod Values
 pub mod Names
 pub mod Solo

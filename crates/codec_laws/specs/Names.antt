@@ -12,7 +12,7 @@ use Rattle.codec.specs.declared.part.Part.{Part}
 use Rattle.codec.specs.Part.{unsigned_of, member_names, member_texts}
 use Rattle.codec.specs.Codes.{Code}
 use Rattle.codec.specs.Copies.{copies}
-use Rattle.codec_laws.specs.PartTexts.{part_texts}
+use Rattle.entry_count.specs.PartCode.{part_texts}
 
 -- a text that protection gives, and one that a program may have
 abbrev pub IsGenerated : List ℕ → Type 0
