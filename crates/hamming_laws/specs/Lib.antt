@@ -1,0 +1,3 @@
+pub mod PositionsOfWords
+pub mod Places
+pub mod Words
