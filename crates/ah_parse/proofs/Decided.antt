@@ -15,17 +15,18 @@ use Rattle.cxx_lex.specs.declared.tok.TokKind.TheVariants as kind
 use Rattle.cxx_lex.specs.Tokens.{Token, HasTokens, RefusedAt}
 use Rattle.cxx_lex.specs.Words.{IsWord}
 use Rattle.cxx_lex.proofs.Readings.{always_one}
-use Rattle.guards.specs.declared.guard.GuardKind.TheVariants.{Copies}
+use Rattle.guards.specs.declared.guard.GuardKind.{GuardKind}
+use Rattle.guards.specs.declared.guard.GuardKind.TheVariants.{Copies, Hamming}
 use Rattle.ah_parse.specs.declared.aspect.GuardAspect.{GuardAspect}
 use Rattle.ah_parse.specs.declared.fixed.Fixed.{Fixed}
 use Rattle.ah_parse.specs.declared.fixed.Fixed.TheVariants as fixed
 use Rattle.ah_parse.specs.Aspects.{Word, word_of, keyword, sign, heading, quoted, built_in, Begins, IsAspect}
-use Rattle.ah_parse.specs.Descent.{fixed_word, fixed_words, fixed_kind, fixed_text, NeverBegins, IsName, IsNoName, IsHeading, IsNoHeading, IsNoClass, AreClasses, AreNoClasses, IsNoAspect, IsFresh, IsNoFresh, AreFile, AreNoFile}
+use Rattle.ah_parse.specs.Descent.{fixed_word, fixed_words, fixed_kind, fixed_text, NeverBegins, IsName, IsNoName, IsNoOpening, IsHeading, IsNoHeading, IsNoClass, AreClasses, AreNoClasses, IsNoAspect, IsFresh, IsNoFresh, AreFile, AreNoFile}
 use Rattle.ah_parse.specs.GuardFiles.{IsGuardFile, IsAlwaysOneOrNone}
 use Rattle.ah_parse.proofs.Classes as classes
 use Rattle.ah_parse.proofs.Files as files
 use Rattle.ah_parse.proofs.Files.{fresh-shorter, is-file, no-file, no-text, one_meaning}
-use Rattle.ah_parse.proofs.Parts.{closed, whole, same-aspect, no-heading, no-classes, no-close, no-keyword, no-name, no-brace, is-heading}
+use Rattle.ah_parse.proofs.Parts.{closed, whole, same-aspect, no-heading, no-classes, no-close, no-keyword, no-name, no-opening, neither, is-heading}
 
 -- ---- tokens
 
@@ -36,8 +37,8 @@ kind-is fixed.Colon (kind.Sign sg.Colon) = inl refl
 kind-is fixed.Colon _ = inr (λ e. cc)
 kind-is fixed.Public (kind.Keyword kw.Public) = inl refl
 kind-is fixed.Public _ = inr (λ e. cc)
-kind-is fixed.Base kind.Name = inl refl
-kind-is fixed.Base _ = inr (λ e. cc)
+kind-is (fixed.Base guard) kind.Name = inl refl
+kind-is (fixed.Base guard) _ = inr (λ e. cc)
 kind-is fixed.OpenBrace (kind.Sign sg.OpenBrace) = inl refl
 kind-is fixed.OpenBrace _ = inr (λ e. cc)
 kind-is fixed.Pointcut (kind.Keyword kw.Pointcut) = inl refl
@@ -92,7 +93,7 @@ passes (word ∷ words) (t ∷ ts) = by (word-is word t) (passes words ts)
 
 name-is : (tokens : List Token) → ((named : Token) × (rest : List Token) × IsName named tokens rest) ⊎ IsNoName tokens
 name-is [] = inr (λ named rest is. is.words)
-name-is (t ∷ ts) = by (kind-is fixed.Base t.kind) (is_known built_in t.text) refl
+name-is (t ∷ ts) = by (kind-is fixed.Guarded t.kind) (is_known built_in t.text) refl
   where
     by : (t.kind ≡ kind.Name) ⊎ (t.kind ≢ kind.Name) → (known : Bool) → is_known built_in t.text ≡ known
         → ((named : Token) × (rest : List Token) × IsName named (t ∷ ts) rest) ⊎ IsNoName (t ∷ ts)
@@ -101,25 +102,40 @@ name-is (t ∷ ts) = by (kind-is fixed.Base t.kind) (is_known built_in t.text) r
     by (inr n) known own = inr (λ named rest is. n (ap (λ (w : Word). w.0) is.words.0))
 
 -- the words between an aspect's name and its first class
-abbrev behind_name : List Fixed
-behind_name =
-    fixed.Colon ∷ fixed.Public ∷ fixed.Base ∷ fixed.OpenBrace ∷ fixed.Pointcut ∷ fixed.Guarded ∷ fixed.OpenParen ∷ fixed.CloseParen ∷ fixed.Assign ∷ []
+abbrev behind_name : GuardKind → List Fixed
+behind_name guard =
+    fixed.Colon ∷ fixed.Public ∷ fixed.Base guard ∷ fixed.OpenBrace ∷ fixed.Pointcut ∷ fixed.Guarded ∷ fixed.OpenParen ∷ fixed.CloseParen ∷ fixed.Assign ∷ []
 
-heading-is : (tokens : List Token) → ((named : Token) × (rest : List Token) × IsHeading named tokens rest) ⊎ IsNoHeading tokens
+opening-is : (tokens : List Token) → ((guard : GuardKind) × (rest : List Token) × Begins (heading guard) tokens rest) ⊎ IsNoOpening tokens
+opening-is tokens = by (passes (behind_name Copies) tokens) (passes (behind_name Hamming) tokens)
+  where
+    by : ((rest : List Token) × Begins (heading Copies) tokens rest) ⊎ NeverBegins (heading Copies) tokens
+        → ((rest : List Token) × Begins (heading Hamming) tokens rest) ⊎ NeverBegins (heading Hamming) tokens
+        → ((guard : GuardKind) × (rest : List Token) × Begins (heading guard) tokens rest) ⊎ IsNoOpening tokens
+    by (inl (rest, is)) other = inl (Copies, rest, is)
+    by (inr one) (inl (rest, is)) = inl (Hamming, rest, is)
+    by (inr one) (inr other) = inr (neither tokens one other)
+
+-- a heading, or none
+abbrev Heading : List Token → Type 0
+Heading tokens =
+    ((guard : GuardKind) × (named : Token) × (rest : List Token) × IsHeading guard named tokens rest) ⊎ IsNoHeading tokens
+
+heading-is : (tokens : List Token) → Heading tokens
 heading-is tokens = by (passes (fixed.Aspect ∷ []) tokens)
   where
     by-rest : (named : Token) (inside left : List Token) → Begins (keyword kw.Aspect ∷ []) tokens inside → IsName named inside left
-        → ((rest : List Token) × Begins (heading Copies) left rest) ⊎ NeverBegins (heading Copies) left → ((named : Token) × (rest : List Token) × IsHeading named tokens rest) ⊎ IsNoHeading tokens
-    by-rest named inside left is first (inl (rest, head)) = inl (named, rest, is-heading named tokens inside left rest is first head)
-    by-rest named inside left is first (inr none) = inr (no-brace named tokens inside left is first none)
+        → ((guard : GuardKind) × (rest : List Token) × Begins (heading guard) left rest) ⊎ IsNoOpening left → Heading tokens
+    by-rest named inside left is first (inl (guard, rest, head)) =
+        inl (guard, named, rest, is-heading guard named tokens inside left rest is first head)
+    by-rest named inside left is first (inr none) = inr (no-opening named tokens inside left is first none)
 
-    by-name : (inside : List Token) → Begins (keyword kw.Aspect ∷ []) tokens inside → ((named : Token) × (left : List Token) × IsName named inside left) ⊎ IsNoName inside
-        → ((named : Token) × (rest : List Token) × IsHeading named tokens rest) ⊎ IsNoHeading tokens
-    by-name inside is (inl (named, left, first)) = by-rest named inside left is first (passes behind_name left)
+    by-name : (inside : List Token) → Begins (keyword kw.Aspect ∷ []) tokens inside
+        → ((named : Token) × (left : List Token) × IsName named inside left) ⊎ IsNoName inside → Heading tokens
+    by-name inside is (inl (named, left, first)) = by-rest named inside left is first (opening-is left)
     by-name inside is (inr none) = inr (no-name tokens inside is none)
 
-    by : ((rest : List Token) × Begins (keyword kw.Aspect ∷ []) tokens rest) ⊎ NeverBegins (keyword kw.Aspect ∷ []) tokens
-        → ((named : Token) × (rest : List Token) × IsHeading named tokens rest) ⊎ IsNoHeading tokens
+    by : ((rest : List Token) × Begins (keyword kw.Aspect ∷ []) tokens rest) ⊎ NeverBegins (keyword kw.Aspect ∷ []) tokens → Heading tokens
     by (inl (inside, is)) = by-name inside is (name-is inside)
     by (inr none) = inr (no-keyword tokens none)
 
@@ -186,21 +202,28 @@ classes-are tokens = classes-from [] tokens tokens (classes.reads-none tokens)
 
 -- ---- aspects
 
-aspect-is : (tokens : List Token) → ((aspect : GuardAspect) × (rest : List Token) × IsAspect aspect tokens rest) ⊎ IsNoAspect tokens
+-- an aspect, or none
+abbrev Aspect : List Token → Type 0
+Aspect tokens = ((aspect : GuardAspect) × (rest : List Token) × IsAspect aspect tokens rest) ⊎ IsNoAspect tokens
+
+aspect-is : (tokens : List Token) → Aspect tokens
 aspect-is tokens = by (heading-is tokens)
   where
-    by-rest : (named : Token) (found : List (List ℕ)) (inside behind : List Token) → IsHeading named tokens inside → AreClasses found inside behind
-        → ((rest : List Token) × Begins closed behind rest) ⊎ NeverBegins closed behind → ((aspect : GuardAspect) × (rest : List Token) × IsAspect aspect tokens rest) ⊎ IsNoAspect tokens
-    by-rest named found inside behind head are (inl (rest, close)) = inl (_, rest, whole named found tokens inside behind rest head are close)
-    by-rest named found inside behind head are (inr none) = inr (no-close named found tokens inside behind head are none)
+    by-rest : (guard : GuardKind) (named : Token) (found : List (List ℕ)) (inside behind : List Token)
+        → IsHeading guard named tokens inside → AreClasses found inside behind
+        → ((rest : List Token) × Begins closed behind rest) ⊎ NeverBegins closed behind → Aspect tokens
+    by-rest guard named found inside behind head are (inl (rest, close)) =
+        inl (_, rest, whole guard named found tokens inside behind rest head are close)
+    by-rest guard named found inside behind head are (inr none) = inr (no-close guard named found tokens inside behind head are none)
 
-    by-classes : (named : Token) (inside : List Token) → IsHeading named tokens inside → ((found : List (List ℕ)) × (rest : List Token) × AreClasses found inside rest) ⊎ AreNoClasses inside
-        → ((aspect : GuardAspect) × (rest : List Token) × IsAspect aspect tokens rest) ⊎ IsNoAspect tokens
-    by-classes named inside head (inl (found, behind, are)) = by-rest named found inside behind head are (passes (fixed.CloseBrace ∷ fixed.Semicolon ∷ []) behind)
-    by-classes named inside head (inr none) = inr (no-classes named tokens inside head none)
+    by-classes : (guard : GuardKind) (named : Token) (inside : List Token) → IsHeading guard named tokens inside
+        → ((found : List (List ℕ)) × (rest : List Token) × AreClasses found inside rest) ⊎ AreNoClasses inside → Aspect tokens
+    by-classes guard named inside head (inl (found, behind, are)) =
+        by-rest guard named found inside behind head are (passes (fixed.CloseBrace ∷ fixed.Semicolon ∷ []) behind)
+    by-classes guard named inside head (inr none) = inr (no-classes guard named tokens inside head none)
 
-    by : ((named : Token) × (rest : List Token) × IsHeading named tokens rest) ⊎ IsNoHeading tokens → ((aspect : GuardAspect) × (rest : List Token) × IsAspect aspect tokens rest) ⊎ IsNoAspect tokens
-    by (inl (named, inside, head)) = by-classes named inside head (classes-are inside)
+    by : Heading tokens → Aspect tokens
+    by (inl (guard, named, inside, head)) = by-classes guard named inside head (classes-are inside)
     by (inr none) = inr (no-heading tokens none)
 
 fresh-is : (taken : List (List ℕ)) (tokens : List Token) → ((aspect : GuardAspect) × (rest : List Token) × IsFresh taken aspect tokens rest) ⊎ IsNoFresh taken tokens

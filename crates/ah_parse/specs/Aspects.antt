@@ -12,7 +12,7 @@ use Rattle.cxx_lex.specs.declared.tok.TokKind.TheVariants as kind
 use Rattle.cxx_lex.specs.Tokens.{Token}
 use Rattle.cxx_lex.specs.Words.{IsWord}
 use Rattle.guards.specs.declared.guard.GuardKind.{GuardKind}
-use Rattle.guards.specs.declared.guard.GuardKind.TheVariants.{Copies}
+use Rattle.guards.specs.declared.guard.GuardKind.TheVariants.{Copies, Hamming}
 use Rattle.ah_parse.specs.declared.aspect.GuardAspect.{GuardAspect}
 
 -- what a token is, wherever it stands: its kind and its text
@@ -48,10 +48,11 @@ joined (class ∷ classes) = quoted class ∷ further classes
 -- the built-in aspect that an aspect goes by
 abbrev pub base_of : GuardKind → List ℕ
 base_of Copies = codes "GOP_Copies"
+base_of Hamming = codes "GOP_Hamming"
 
 -- the names of built-in aspects
 abbrev pub built_in : List (List ℕ)
-built_in = codes "GOP_Copies" ∷ codes "GOP_Hamming" ∷ []
+built_in = base_of Copies ∷ base_of Hamming ∷ []
 
 -- behind the name, up to the first class: `: public BASE { pointcut guarded() =`
 abbrev pub heading : GuardKind → List Word

@@ -7,7 +7,7 @@ use Rattle.agxx_base.specs.Names.{is_known}
 use Rattle.cxx_lex.specs.declared.tok.TokKind.{TokKind}
 use Rattle.cxx_lex.specs.Tokens.{Token}
 use Rattle.cxx_lex.specs.Words.{IsWord}
-use Rattle.guards.specs.declared.guard.GuardKind.TheVariants.{Copies}
+use Rattle.guards.specs.declared.guard.GuardKind.{GuardKind}
 use Rattle.ah_parse.specs.declared.fixed.Fixed.{Fixed}
 use Rattle.ah_parse.specs.declared.fixed.Fixed.TheVariants as fixed
 use Rattle.ah_parse.specs.declared.aspect.GuardAspect.{GuardAspect}
@@ -19,7 +19,7 @@ abbrev pub fixed_word : Fixed → Word
 fixed_word fixed.Aspect = keyword kw.Aspect
 fixed_word fixed.Colon = sign sg.Colon
 fixed_word fixed.Public = keyword kw.Public
-fixed_word fixed.Base = name (base_of Copies)
+fixed_word (fixed.Base guard) = name (base_of guard)
 fixed_word fixed.OpenBrace = sign sg.OpenBrace
 fixed_word fixed.Pointcut = keyword kw.Pointcut
 fixed_word fixed.Guarded = name (codes "guarded")
@@ -56,14 +56,18 @@ pub record IsName (named : Token) (tokens rest : List Token) : Type 0 where
 abbrev pub IsNoName : List Token → Type 0
 IsNoName tokens = (named : Token) (rest : List Token) → IsName named tokens rest → ⊥
 
--- An aspect of this name begins, and its classes are to come.
-pub record IsHeading (named : Token) (tokens rest : List Token) : Type 0 where
-  pub words : Begins (keyword kw.Aspect ∷ name named.text ∷ heading Copies) tokens rest
+-- What stands behind an aspect's name, up to its first class, doesn't come next.
+abbrev pub IsNoOpening : List Token → Type 0
+IsNoOpening tokens = (guard : GuardKind) → NeverBegins (heading guard) tokens
+
+-- An aspect of this name begins, which guards in this way, and its classes are to come.
+pub record IsHeading (guard : GuardKind) (named : Token) (tokens rest : List Token) : Type 0 where
+  pub words : Begins (keyword kw.Aspect ∷ name named.text ∷ heading guard) tokens rest
   pub place : slice_get tokens 1 ≡ Some named
   pub own : is_known built_in named.text ≡ false
 
 abbrev pub IsNoHeading : List Token → Type 0
-IsNoHeading tokens = (named : Token) (rest : List Token) → IsHeading named tokens rest → ⊥
+IsNoHeading tokens = (guard : GuardKind) (named : Token) (rest : List Token) → IsHeading guard named tokens rest → ⊥
 
 -- some classes and the `;` behind them
 abbrev pub listed : List (List ℕ) → List Word

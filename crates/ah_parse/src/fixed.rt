@@ -7,6 +7,7 @@ ghost use Rattle.ah_parse.specs.Descent as spec;
 
 use agxx_base::{Keyword, Sign};
 use cxx_lex::{Tok, TokKind};
+use guards::GuardKind;
 
 /// A word that stands in each aspect.
 #[derive(Clone, Copy, Debug)]
@@ -14,8 +15,8 @@ pub(crate) enum Fixed {
     Aspect,
     Colon,
     Public,
-    /// `GOP_Copies`
-    Base,
+    /// The built-in aspect that guards in this way.
+    Base(GuardKind),
     OpenBrace,
     Pointcut,
     /// `guarded`
@@ -42,7 +43,8 @@ impl Fixed {
             Fixed::Aspect => b"aspect",
             Fixed::Colon => b":",
             Fixed::Public => b"public",
-            Fixed::Base => b"GOP_Copies",
+            Fixed::Base(GuardKind::Copies) => b"GOP_Copies",
+            Fixed::Base(GuardKind::Hamming) => b"GOP_Hamming",
             Fixed::OpenBrace => b"{",
             Fixed::Pointcut => b"pointcut",
             Fixed::Guarded => b"guarded",
@@ -62,7 +64,7 @@ impl Fixed {
             Fixed::Aspect => kind == TokKind::Keyword(Keyword::Aspect),
             Fixed::Colon => kind == TokKind::Sign(Sign::Colon),
             Fixed::Public => kind == TokKind::Keyword(Keyword::Public),
-            Fixed::Base | Fixed::Guarded => kind == TokKind::Name,
+            Fixed::Base(_) | Fixed::Guarded => kind == TokKind::Name,
             Fixed::OpenBrace => kind == TokKind::Sign(Sign::OpenBrace),
             Fixed::Pointcut => kind == TokKind::Keyword(Keyword::Pointcut),
             Fixed::OpenParen => kind == TokKind::Sign(Sign::OpenParen),

@@ -1,6 +1,7 @@
-//! Aspect files that tell which classes are guarded, and how: each aspect has the built-in aspect `GOP_Copies` as its
-//! base, and its pointcut `guarded` names the classes. Callers cite `specs/GuardFiles.antt`: which texts are guard
-//! files, which names are taken then, and the guards of aspects; `specs/Aspects.antt` has the words of an aspect.
+//! Aspect files that tell which classes are guarded, and how: each aspect has the built-in aspect `GOP_Copies` or
+//! `GOP_Hamming` as its base, and its pointcut `guarded` names the classes. Callers cite `specs/GuardFiles.antt`: which
+//! texts are guard files, which names are taken then, and the guards of aspects; `specs/Aspects.antt` has the words of
+//! an aspect.
 #![tactic(auto)]
 
 mod aspect;

@@ -4,10 +4,9 @@ ghost use Rattle.std.specs.Prelude.{◌≡◌, ◌↔◌, [], ◌∷◌, IfOk, I
 ghost use Rattle.cxx_lex.specs.Tokens.{token_of};
 ghost use Rattle.cxx_lex.specs.TokList.{tokens_of};
 ghost use Rattle.cxx_lex.specs.Words.{IsWord};
-ghost use Rattle.guards.specs.declared.guard.GuardKind.TheVariants.{Copies};
 ghost use Rattle.ah_parse.specs.Aspects.{Begins, heading, quoted, IsAspect};
 ghost use Rattle.ah_parse.specs.Descent.{fixed_word, fixed_words, NeverBegins, IsName, IsNoName};
-ghost use Rattle.ah_parse.specs.Descent.{IsNoAspect, IsHeading, IsNoHeading, IsNoQuoted};
+ghost use Rattle.ah_parse.specs.Descent.{IsNoAspect, IsNoOpening, IsHeading, IsNoHeading, IsNoQuoted};
 ghost use Rattle.ah_parse.specs.Descent.{AreClasses, AreNoClasses, IsClass, IsNoClass, IsEnd, IsNoEnd};
 
 use crate::aspect::GuardAspect;
@@ -99,15 +98,15 @@ impl<'t> Reader<'t> {
         }
     }
 
-    /// Passes what stands between an aspect's name and its first class.
-    fn pass_heading(&mut self) -> bool
-        ensures { MatchBool result (Begins (heading Copies) self.old self.new)
-            (NeverBegins (heading Copies) self.old) }
+    /// Passes what stands between an aspect's name and its first class, where the aspect guards in this way.
+    fn pass_opening(&mut self, guard: GuardKind) -> bool
+        ensures { MatchBool result (Begins (heading guard) self.old self.new)
+            (NeverBegins (heading guard) self.old) }
     {
         self.pass_all(&[
             Fixed::Colon,
             Fixed::Public,
-            Fixed::Base,
+            Fixed::Base(guard),
             Fixed::OpenBrace,
             Fixed::Pointcut,
             Fixed::Guarded,
@@ -117,20 +116,36 @@ impl<'t> Reader<'t> {
         ])
     }
 
-    /// Passes an aspect up to its first class, and tells its name.
-    fn heading(&mut self) -> Option<Tok<'t>>
+    /// Passes what stands between an aspect's name and its first class, and tells how the aspect guards.
+    fn opening(&mut self) -> Option<GuardKind>
+        ensures { MatchOption result (IsNoOpening self.old)
+            (λ guard. Begins (heading guard) self.old self.new) }
+    {
+        let left = self.left;
+        if self.pass_opening(GuardKind::Copies) {
+            return Some(GuardKind::Copies);
+        }
+        self.left = left;
+        if self.pass_opening(GuardKind::Hamming) {
+            Some(GuardKind::Hamming)
+        } else {
+            None
+        }
+    }
+
+    /// Passes an aspect up to its first class, and tells how it guards, and its name.
+    fn heading(&mut self) -> Option<(GuardKind, Tok<'t>)>
         ensures { MatchOption result (IsNoHeading self.old)
-            (λ name. IsHeading (token_of name) self.old self.new) }
+            (λ p. IsHeading p.0 (token_of p.1) self.old self.new) }
     {
         if !self.pass(Fixed::Aspect) {
             return None;
         }
         match self.name() {
             None => None,
-            Some(name) => if self.pass_heading() {
-                Some(name)
-            } else {
-                None
+            Some(name) => match self.opening() {
+                None => None,
+                Some(guard) => Some((guard, name)),
             },
         }
     }
@@ -203,7 +218,7 @@ impl<'t> Reader<'t> {
         ensures { IfOk result (λ found. MatchOption found (IsNoAspect self.old)
             (λ aspect. IsAspect aspect self.old self.new)) }
     {
-        let Some(name) = self.heading() else {
+        let Some((guard, name)) = self.heading() else {
             return Ok(None);
         };
         let Some(classes) = self.classes(alloc)? else {
@@ -216,7 +231,7 @@ impl<'t> Reader<'t> {
         Ok(Some(GuardAspect {
             name: text,
             at: name.at,
-            kind: GuardKind::Copies,
+            kind: guard,
             classes,
         }))
     }

@@ -1,5 +1,5 @@
 -- What is generated for a part: the words that its code adds, a counter of threads inside and a lock, and four functions.
-use Rattle.std.specs.Prelude.{ℕ, List, [], ◌∷◌, ◌++◌, map, codes}
+use Rattle.std.specs.Prelude.{ℕ, List, [], ◌∷◌, ◌++◌, codes}
 use Rattle.agxx_base.specs.declared.ids.NameId.{NameId}
 use Rattle.agxx_base.specs.declared.kind.NumKind.TheVariants as kind
 use Rattle.agxx_base.specs.declared.place.Place.{Place}

@@ -37,8 +37,7 @@ use Rattle.cxx_types.specs.State.{State}
 use Rattle.cxx_types.specs.Checking.{required, noted, closed}
 use Rattle.cxx_types.specs.Conversion.{may_convert, takes, takes_one, binary_type, unary_type, casts, cast_type}
 use Rattle.cxx_types.specs.Selections as of
-use Rattle.cxx_types.specs.Selections.{is_value, member, member_by, base_node, selected, holder, is_thread_function, is_mutex_function}
-use Rattle.cxx_types.specs.Calls.{called, created}
+use Rattle.cxx_types.specs.Selections.{is_value, member, member_by, base_node, selected, is_thread_function, is_mutex_function}
 use Rattle.cxx_types.specs.Expressions as to
 use Rattle.cxx_types.specs.Expressions.{left, count, both, passed}
 use Rattle.cxx_types.specs.Access.{is_accessible}

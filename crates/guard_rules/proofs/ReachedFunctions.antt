@@ -26,7 +26,6 @@ use Rattle.cxx_types.specs.Checking.{required}
 use Rattle.cxx_types.specs.Conversion.{may_convert}
 use Rattle.cxx_types.specs.Expressions as of
 use Rattle.cxx_types.specs.Expressions.{count}
-use Rattle.cxx_types.specs.Locals.{result_type}
 use Rattle.cxx_types.specs.Selections.{is_value, value_of}
 use Rattle.cxx_types.specs.Statements as to
 use Rattle.cxx_types.specs.Classes as c

@@ -23,12 +23,10 @@ use Rattle.cxx_types.specs.declared.limits.Counts.{Counts}
 use Rattle.cxx_types.specs.declared.programs.DeclsSeen.{DeclsSeen}
 use Rattle.cxx_types.specs.Counts.{most}
 use Rattle.cxx_types.specs.State.{State}
-use Rattle.cxx_types.specs.Calls.{constructed}
 use Rattle.cxx_types.specs.Checking.{required}
 use Rattle.cxx_types.specs.Classes.{function, class}
 use Rattle.cxx_types.specs.Expressions as of
 use Rattle.cxx_types.specs.Expressions.{count}
-use Rattle.cxx_types.specs.Locals.{variable_type}
 use Rattle.cxx_types.specs.Statements.{dtor_is_accessible}
 use Rattle.cxx_types.specs.Programs as d
 use Rattle.cxx_types.specs.Programs.{variable, object, global, checked, outside, global_place, next_seen, none_seen, has_main, initialised}

@@ -1,5 +1,5 @@
 -- Which class has which guard. A class that several guards name has the first of them.
-use Rattle.std.specs.Prelude.{ℕ, List, [], ◌∷◌, Option}
+use Rattle.std.specs.Prelude.{List, Option}
 use Rattle.agxx_base.specs.declared.ids.NameId.{NameId}
 use Rattle.guards.specs.declared.guard.Guard.{Guard}
 use Rattle.guards.specs.declared.guard.GuardKind.{GuardKind}

@@ -7,6 +7,8 @@ use agxx_base::{ListOf, NameId, Place};
 pub enum GuardKind {
     /// Two copies of each member, by the built-in aspect `GOP_Copies`.
     Copies,
+    /// Check words over all members, by the built-in aspect `GOP_Hamming`.
+    Hamming,
 }
 
 /// A class that an aspect guards.

@@ -176,16 +176,29 @@ fn fault_locals(maker: Maker, words: &PartWords) -> Result<Items<Stmt>, Memory>
     Ok(stmts)
 }
 
+fn mend_member(maker: Maker, member: MemberWord) -> Result<Stmt, Memory>
+    ensures { IfOk result (λ stmt. stmt_tree stmt ≡ spec.mend_member maker.at member) }
+{
+    let value = differing(maker, member.word, member.fault)?;
+    Ok(maker.assign(member.member.name.item, value))
+}
+
 fn mend_members(maker: Maker, members: &[MemberWord]) -> Result<Items<Stmt>, Memory>
     ensures { IfOk result (λ stmts. map stmt_tree stmts
         ≡ map (spec.mend_member maker.at) members.now) }
 {
     let mut stmts = Items::new(maker.alloc);
     for member in members {
-        let value = differing(maker, member.word, member.fault)?;
-        stmts.push(maker.assign(member.member.name.item, value))?;
+        stmts.push(mend_member(maker, *member)?)?;
     }
     Ok(stmts)
+}
+
+fn mend_check(maker: Maker, check: CheckWord) -> Result<Stmt, Memory>
+    ensures { IfOk result (λ stmt. stmt_tree stmt ≡ spec.mend_check maker.at check) }
+{
+    let value = differing(maker, check.name, check.fault)?;
+    Ok(maker.assign(check.name, value))
 }
 
 fn mend_checks(maker: Maker, checks: &[CheckWord]) -> Result<Items<Stmt>, Memory>
@@ -194,8 +207,7 @@ fn mend_checks(maker: Maker, checks: &[CheckWord]) -> Result<Items<Stmt>, Memory
 {
     let mut stmts = Items::new(maker.alloc);
     for check in checks {
-        let value = differing(maker, check.name, check.fault)?;
-        stmts.push(maker.assign(check.name, value))?;
+        stmts.push(mend_check(maker, *check)?)?;
     }
     Ok(stmts)
 }

@@ -1,6 +1,5 @@
 -- Lists to which one list is appended after another.
 use Rattle.std.proofs.Common.{◌≡◌, ℕ, ap, ◌∙◌, List, ◌++◌, map, append_assoc}
-use Rattle.agxx_base.specs.declared.ids.NameId.{NameId}
 use Rattle.cxx_tree.specs.declared.program.Member.{Member}
 use Rattle.cxx_tree.specs.ProgramTree.{ItemTree, FunctionTree, member, function}
 use Rattle.cxx_make.specs.Generated.{text_of}

@@ -1,9 +1,8 @@
 -- The texts of the names that protection gives to what it makes of a program.
-use Rattle.std.specs.Prelude.{ℕ, max, List, [], ◌∷◌, ◌++◌, map, length, Option, Some, None}
+use Rattle.std.specs.Prelude.{ℕ, max, List, [], ◌∷◌, ◌++◌, Option, Some, None}
 use Rattle.std.specs.List.{flat_map}
-use Rattle.agxx_base.specs.declared.ids.NameId.{NameId}
 use Rattle.cxx_tree.specs.ProgramTree as p
-use Rattle.cxx_tree.specs.ProgramTree.{ItemTree, ClassTree, DeclTree, ProgramTree}
+use Rattle.cxx_tree.specs.ProgramTree.{ItemTree, DeclTree, ProgramTree}
 use Rattle.cxx_make.specs.Generated.{text_of, all_interned}
 use Rattle.guards.specs.declared.guard.Guard.{Guard}
 use Rattle.guards.specs.declared.guard.GuardKind.{GuardKind}

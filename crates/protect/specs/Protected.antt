@@ -1,12 +1,10 @@
 -- The protected program: each function of a class enters the parts of its objects and leaves them, and each guarded class
 -- gets its part at its end, public. All else stays as it is.
-use Rattle.std.specs.Prelude.{ℕ, List, [], ◌∷◌, ◌++◌, map, Option, Some, None, if◌then◌else◌, codes}
-use Rattle.std.specs.List.{flat_map}
+use Rattle.std.specs.Prelude.{ℕ, List, [], ◌∷◌, ◌++◌, map, Option, Some, None, if◌then◌else◌}
 use Rattle.agxx_base.specs.declared.ids.NameId.{NameId}
 use Rattle.agxx_base.specs.declared.place.Place.{Place}
 use Rattle.cxx_tree.specs.declared.program.Access.{Access}
 use Rattle.cxx_tree.specs.declared.program.Access.TheVariants as access_of
-use Rattle.cxx_tree.specs.declared.program.Member.{Member}
 use Rattle.cxx_tree.specs.declared.program.TypeName.TheVariants as type_of
 use Rattle.cxx_tree.specs.ProgramTree as p
 use Rattle.cxx_tree.specs.ProgramTree.{FunctionTree, CtorTree, DtorTree, ItemTree, ClassTree, DeclTree, ProgramTree}
@@ -19,12 +17,14 @@ use Rattle.guards.specs.declared.guard.GuardKind.TheVariants as guard
 use Rattle.codec.specs.declared.part.Part.{Part}
 use Rattle.codec.specs.Codes.{Code}
 use Rattle.codec.specs.Copies.{copies}
+use Rattle.hamming_gen.specs.Hamming.{hamming}
 use Rattle.entry_count.specs.PartCode.{part_members, part_functions}
 use Rattle.entry_count.specs.Wrapping.{wrapped_body}
 use Rattle.protect.specs.GuardedParts.{part_of, guarded_parts, parts_named}
 
 abbrev pub code_of : GuardKind → Code
 code_of guard.Copies = copies
+code_of guard.Hamming = hamming
 
 -- ---- functions
 

@@ -15,6 +15,7 @@ use cxx_names::default_access;
 use cxx_tree::{Access, Class, Function, Item, Member};
 use entry_count::{PartCode, enter_leave};
 use guards::GuardKind;
+use hamming_gen::Hamming;
 use sqlite_items::Items;
 use std::alloc::Global;
 
@@ -104,6 +105,7 @@ fn add_part(
 {
     match kind {
         GuardKind::Copies => add_code(alloc, names, part, &Copies, items),
+        GuardKind::Hamming => add_code(alloc, names, part, &Hamming, items),
     }
 }
 

@@ -16,6 +16,7 @@ use codec::{Codec, Copies, Part};
 use cxx_tree::{Decl, Item, Program};
 use entry_count::{mutex_texts, part_texts, returns_in, value_texts};
 use guards::GuardKind;
+use hamming_gen::Hamming;
 use std::alloc::Global;
 
 /// The text of a name, or none where no name has this number.
@@ -40,6 +41,7 @@ fn add_code_texts(
 {
     match kind {
         GuardKind::Copies => Copies.add_texts(alloc, names, part, texts),
+        GuardKind::Hamming => Hamming.add_texts(alloc, names, part, texts),
     }
 }
 

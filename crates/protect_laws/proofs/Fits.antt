@@ -1,5 +1,6 @@
 -- Protected programs keep the limits.
-use Rattle.std.proofs.Common.{◌≤◌, ℕ, suc, ◌+◌, refl, sym, ap, subst, arith, Bool, true, false, if◌then◌else◌, List, [], ◌∷◌, ◌++◌, map, reverse, Option, Some, None}
+use Rattle.std.proofs.Common.{◌≤◌, ℕ, suc, ◌+◌, refl, sym, ap, subst, arith, Bool, true, false, if◌then◌else◌, List, [], ◌∷◌, ◌++◌, map, length, reverse, Option, Some, None}
+use Rattle.std.specs.List.{range_with_len, flat_map}
 use Rattle.agxx_base.specs.declared.ids.NameId.{NameId}
 use Rattle.agxx_base.specs.declared.place.Place.{Place}
 use Rattle.cxx_tree.specs.declared.program.Access.TheVariants as access_of
@@ -24,12 +25,19 @@ use Rattle.guards.specs.declared.guard.Guard.{Guard}
 use Rattle.guards.specs.declared.guard.GuardKind.{GuardKind}
 use Rattle.guards.specs.declared.guard.GuardKind.TheVariants as guard
 use Rattle.codec.specs.declared.part.Part.{Part}
+use Rattle.codec.specs.Codes.{Code}
 use Rattle.codec.specs.Copies as copies
+use Rattle.hamming_gen.specs.Positions.{check_words}
+use Rattle.hamming_gen.specs.HammingNames.{check_name}
+use Rattle.hamming_gen.specs.HammingTrees.{word_member}
+use Rattle.hamming_gen.specs.Hamming.{hamming}
 use Rattle.entry_count.specs.PartCode.{repair, renew, enter, leave, enter_body, leave_body, take_lock, free_lock, is_zero, counts, when_zero, repairs, renews, part_members, part_functions}
 use Rattle.entry_count.specs.Wrapping as w
 use Rattle.protect.specs.GuardedParts as g
 use Rattle.protect.specs.Protected as z
-use Rattle.protect_laws.specs.Kept.{ProtectedFitsWoven}
+use Rattle.protect_laws.specs.Guarded.{class_in}
+use Rattle.protect_laws.specs.Kept.{HasFewMembers, ProtectedFitsWoven}
+use Rattle.protect_laws.proofs.CheckWords as check
 use Rattle.protect_laws.proofs.Shapes.{calls, entering-is, leaving-is, returning-is, end-is, value_local, items-are}
 
 abbrev Fits : ℕ → StmtTree → Type 0
@@ -233,34 +241,49 @@ members-fit : (ms : List Member) → Every (λ (m : Member). f.IsMemberType wove
 members-fit [] fits = tt
 members-fit (m ∷ ms) fits = (fits.0, members-fit ms fits.1)
 
-part-fits : (names : List (List ℕ)) (kind : GuardKind) (part : Part)
+-- a part with a code whose statements keep the limits
+code-fits : (names : List (List ℕ)) (code : Code) (part : Part)
+    → Every (λ (m : Member). f.IsMemberType woven m.type_name.item) (code.members names part)
+    → FitEach 98 (code.repair names part) → FitEach 98 (code.renew names part)
+    → Every (f.FitsItem woven 400 99) (z.part_items code names part)
+code-fits names code part added repairs renews =
+    let at = part.class.at in
+    let members = every-append (λ (m : Member). f.IsMemberType woven m.type_name.item) (code.members names part) _ added
+    (tt, (tt, tt)) in
+    let repaired = procedure-fits names at (repair names part.class.item) _ repairs in
+    let renewed = procedure-fits names at (renew names part.class.item) _ renews in
+    let entered = procedure-fits names at (enter names part.class.item) _ (enter-fits names at part.class.item) in
+    let left = procedure-fits names at (leave names part.class.item) _ (leave-fits names at part.class.item) in
+    subst (Every (f.FitsItem woven 400 99)) (sym (items-are names code part))
+    (every-append (f.FitsItem woven 400 99) (map p.member (part_members code names part))
+    (map p.function (part_functions code names part))
+    (members-fit (part_members code names part) members)
+    (repaired, (renewed, (entered, (left, tt)))))
+
+part-fits : (names : List (List ℕ)) (kind : GuardKind) (part : Part) → HasFewMembers (Some (kind, part))
     → Every (f.FitsItem woven 400 99) (z.part_items (z.code_of kind) names part)
-part-fits names guard.Copies part =
+part-fits names guard.Copies part few =
     let at = part.class.at in
     let HasType : Member → Type 0 = λ m. f.IsMemberType woven m.type_name.item in
     let first = every-map HasType (copies.first_member names at) (λ m. tt) part.members in
     let second = every-map HasType (copies.second_member names at) (λ m. tt) part.members in
-    let added = every-append HasType (map (copies.first_member names at) part.members)
-    (map (copies.second_member names at) part.members) first second in
-    let members = every-append HasType (map (copies.first_member names at) part.members
-    ++ map (copies.second_member names at) part.members) _ added (tt, (tt, tt)) in
-    let repaired = procedure-fits names at (repair names part.class.item) _ (repair-fits names at 1 part.members) in
-    let renewed = procedure-fits names at (renew names part.class.item) _ (renew-fits names at part.members) in
-    let entered = procedure-fits names at (enter names part.class.item) _ (enter-fits names at part.class.item) in
-    let left = procedure-fits names at (leave names part.class.item) _ (leave-fits names at part.class.item) in
-    subst (Every (f.FitsItem woven 400 99)) (sym (items-are names (z.code_of guard.Copies) part))
-    (every-append (f.FitsItem woven 400 99) (map p.member (part_members (z.code_of guard.Copies) names part))
-    (map p.function (part_functions (z.code_of guard.Copies) names part))
-    (members-fit (part_members (z.code_of guard.Copies) names part) members)
-    (repaired, (renewed, (entered, (left, tt)))))
+    code-fits names copies.copies part (every-append HasType (map (copies.first_member names at) part.members)
+    (map (copies.second_member names at) part.members) first second) (repair-fits names at 1 part.members)
+    (renew-fits names at part.members)
+part-fits names guard.Hamming part few =
+    let HasType : Member → Type 0 = λ m. f.IsMemberType woven m.type_name.item in
+    let js = range_with_len 0 (check_words (length part.members)) in
+    let word : ℕ → Member = λ j. word_member part.class.at (check_name names part.class.item j) in
+    code-fits names hamming part (every-append HasType (map word js) _ (every-map HasType word (λ j. tt) js) (tt, tt))
+    (check.repair-fits names part few) (check.renew-fits names part few)
 
-added-fit : (names : List (List ℕ)) (c : ClassTree) (part : Option (GuardKind × Part))
+added-fit : (names : List (List ℕ)) (c : ClassTree) (part : Option (GuardKind × Part)) → HasFewMembers part
     → Every (f.FitsItem woven 400 99) (z.added names c part)
-added-fit names c None = tt
-added-fit names c (Some (kind, part)) =
+added-fit names c None few = tt
+added-fit names c (Some (kind, part)) few =
     let shown = z.last_access (d.default_access c.word) c.items in
     every-append (f.FitsItem woven 400 99) (z.opening c.at shown) (z.part_items (z.code_of kind) names part)
-    (by (same_access shown access_of.Public)) (part-fits names kind part)
+    (by (same_access shown access_of.Public)) (part-fits names kind part few)
   where
     by : (b : Bool) → Every (f.FitsItem woven 400 99) (if b then [] else p.label c.at access_of.Public ∷ [])
     by true = tt
@@ -269,13 +292,13 @@ added-fit names c (Some (kind, part)) =
 -- ---- declarations
 
 module _ (names : List (List ℕ)) (guards : List Guard) (x : Declared) (lists : List (List NameId)) where
-  class-fits : (c : ClassTree) → f.FitsDecl woven 400 99 (p.class c)
+  class-fits : (c : ClassTree) → f.FitsDecl woven 400 99 (p.class c) → HasFewMembers (g.part_of guards c)
       → f.FitsDecl woven 400 100 (p.class (z.protected_class names guards x lists c))
-  class-fits c (below, is, fits) =
+  class-fits c (below, is, fits) few =
       let Here = f.FitsItem woven 400 (suc below) in
       let parts = g.parts_named x lists c.name.item in
       let added = subst (λ n. Every (f.FitsItem woven 400 n) (z.added names c (g.part_of guards c))) is
-      (added-fit names c (g.part_of guards c)) in (
+      (added-fit names c (g.part_of guards c) few) in (
         suc below,
         ap suc is,
         every-append Here (map (z.wrapped_item names parts) c.items)
@@ -283,17 +306,18 @@ module _ (names : List (List ℕ)) (guards : List Guard) (x : Declared) (lists :
       )
 
   decls-fit : (ds : List DeclTree) → Every (f.FitsDecl woven 400 99) ds
+      → Every (λ (c : ClassTree). HasFewMembers (g.part_of guards c)) (flat_map class_in ds)
       → Every (f.FitsDecl woven 400 100) (map (z.protected_decl names guards x lists) ds)
-  decls-fit [] fits = tt
-  decls-fit (p.class c ∷ ds) fits = (class-fits c fits.0, decls-fit ds fits.1)
-  decls-fit (p.class_name c ∷ ds) fits = (tt, decls-fit ds fits.1)
-  decls-fit (p.free_function y ∷ ds) fits =
-      (l.function-larger woven 400 400 same 99 100 (omega arith) y fits.0, decls-fit ds fits.1)
-  decls-fit (p.proto y ∷ ds) fits =
-      (l.decl-larger woven 400 400 same 99 100 (omega arith) (p.proto y) fits.0, decls-fit ds fits.1)
-  decls-fit (p.global y ∷ ds) fits =
-      (l.global-larger woven 400 400 same 99 100 (omega arith) y fits.0, decls-fit ds fits.1)
+  decls-fit [] fits few = tt
+  decls-fit (p.class c ∷ ds) fits few = (class-fits c fits.0 few.0, decls-fit ds fits.1 few.1)
+  decls-fit (p.class_name c ∷ ds) fits few = (tt, decls-fit ds fits.1 few)
+  decls-fit (p.free_function y ∷ ds) fits few =
+      (l.function-larger woven 400 400 same 99 100 (omega arith) y fits.0, decls-fit ds fits.1 few)
+  decls-fit (p.proto y ∷ ds) fits few =
+      (l.decl-larger woven 400 400 same 99 100 (omega arith) (p.proto y) fits.0, decls-fit ds fits.1 few)
+  decls-fit (p.global y ∷ ds) fits few =
+      (l.global-larger woven 400 400 same 99 100 (omega arith) y fits.0, decls-fit ds fits.1 few)
 
 pub protected-fits-woven : ProtectedFitsWoven
-protected-fits-woven names guards q fits =
-    decls-fit names guards (d.declared names q) (g.guarded_parts guards (d.declared names q)) q.decls fits
+protected-fits-woven names guards q fits few =
+    decls-fit names guards (d.declared names q) (g.guarded_parts guards (d.declared names q)) q.decls fits few

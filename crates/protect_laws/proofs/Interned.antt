@@ -18,14 +18,13 @@ use Rattle.cxx_distinct.specs.NamesIn as n
 use Rattle.cxx_make.specs.Generated.{text_of, all_interned}
 use Rattle.guards.specs.declared.guard.Guard.{Guard}
 use Rattle.guards.specs.declared.guard.GuardKind.{GuardKind}
-use Rattle.guards.specs.declared.guard.GuardKind.TheVariants as guard
 use Rattle.guards.specs.Guarding.{kind_of}
-use Rattle.codec.specs.Copies.{copies}
 use Rattle.codec.specs.declared.part.Part.{Part}
 use Rattle.entry_count.specs.PartCode.{mutex_texts}
 use Rattle.protect_laws.proofs.Shapes.{six_texts, texts-are}
 use Rattle.entry_count.specs.Wrapping.{value_texts}
 use Rattle.protect.specs.GuardedParts as g
+use Rattle.protect.specs.Protected.{code_of}
 use Rattle.protect.specs.GeneratedNames.{texts_of_part, texts_of_decl, most_in_decls, generated_texts, with_generated}
 use Rattle.protect_laws.specs.Strip.{begins_generated, is_generated, AreKnown, HasTexts, HasNoneGenerated, GeneratedAreKnown}
 use Rattle.protect_laws.proofs.Exits.{front-of, back-of}
@@ -120,20 +119,21 @@ module _ (all names : List (List ℕ)) (guards : List Guard) where
   texts-same [] same = refl
   texts-same (m ∷ ms) same = rw (same.0) (ap (λ x. text_of names m.name.item ∷ x) (texts-same ms same.1))
 
-  abbrev texts_by : ℕ → List ℕ → List (List ℕ) → List (List ℕ)
-  texts_by k class members = six_texts names class (copies.extra_texts class members ++ copies.local_texts k)
+  abbrev texts_by : GuardKind → ℕ → List ℕ → List (List ℕ) → List (List ℕ)
+  texts_by kind k class members =
+      six_texts names class ((code_of kind).extra_texts class members ++ (code_of kind).local_texts k)
 
   part-same : (class : Placed NameId) (kind : Option GuardKind) (members : List Member) → Same class
       → Every (λ (m : Member). text_of all m.name.item ≡ text_of names m.name.item) members
       → texts_of_part all (g.part_with class kind members) ≡ texts_of_part names (g.part_with class kind members)
   part-same class None members one same = refl
   part-same class (Some kind) [] one same = refl
-  part-same class (Some guard.Copies) (m ∷ ms) one same =
+  part-same class (Some kind) (m ∷ ms) one same =
       let ids = map (λ (m : Member). m.name.item) (m ∷ ms) in
       let part : Part = record { class = class; members = m ∷ ms } in
-      texts-are all guard.Copies part ∙ ap (λ x. texts_by (length (m ∷ ms)) x (map (text_of all) ids)) one
-      ∙ ap (texts_by (length (m ∷ ms)) (text_of names class.item)) (texts-same (m ∷ ms) same)
-      ∙ sym (texts-are names guard.Copies part)
+      texts-are all kind part ∙ ap (λ x. texts_by kind (length (m ∷ ms)) x (map (text_of all) ids)) one
+      ∙ ap (texts_by kind (length (m ∷ ms)) (text_of names class.item)) (texts-same (m ∷ ms) same)
+      ∙ sym (texts-are names kind part)
 
   class-same : (c : ClassTree) → Every Same (n.names_in_class c) → texts_of_part all (g.part_of guards c)
       ≡ texts_of_part names (g.part_of guards c)

@@ -2,6 +2,7 @@ pub mod Shapes
 pub mod Exits
 pub mod StripStmts
 pub mod Known
+pub mod CodeNames
 pub mod Guarded
 pub mod Returns
 pub mod LastLabel
@@ -10,6 +11,7 @@ pub mod Interned
 pub mod Strip
 pub mod Members
 pub mod PartWords
+pub mod CheckWords
 pub mod Fits
 pub mod Bodies
 pub mod Labelled

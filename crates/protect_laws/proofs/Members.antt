@@ -18,7 +18,7 @@ use Rattle.cxx_tree.specs.declared.program.Member.{Member}
 use Rattle.cxx_tree.specs.declared.program.TypeName.TheVariants as type_of
 use Rattle.cxx_tree.specs.Limits.{Every}
 use Rattle.cxx_tree.specs.ProgramTree as p
-use Rattle.cxx_tree.specs.ProgramTree.{FunctionTree, ItemTree, ClassTree, DeclTree, ProgramTree}
+use Rattle.cxx_tree.specs.ProgramTree.{FunctionTree, ItemTree, ClassTree, DeclTree}
 use Rattle.cxx_names.specs.declared.declarations.ClassInfo.{ClassInfo}
 use Rattle.cxx_names.specs.declared.declarations.Declared.{Declared}
 use Rattle.cxx_names.specs.Tables.{named, with_name}
@@ -29,10 +29,8 @@ use Rattle.cxx_normal.specs.Labels.{same_access}
 use Rattle.cxx_make.specs.Generated.{text_of}
 use Rattle.guards.specs.declared.guard.Guard.{Guard}
 use Rattle.guards.specs.declared.guard.GuardKind.{GuardKind}
-use Rattle.guards.specs.declared.guard.GuardKind.TheVariants as guard
 use Rattle.guards.specs.Guarding.{kind_of}
 use Rattle.codec.specs.declared.part.Part.{Part}
-use Rattle.codec.specs.Copies.{first_member, second_member}
 use Rattle.cxx_make.specs.Made as made
 use Rattle.entry_count.specs.PartCode.{counter, mutex, part_members, part_functions}
 use Rattle.protect.specs.GuardedParts as g
@@ -223,14 +221,14 @@ module _ (names : List (List ℕ)) where
       (extra_members names (g.part_with class kind members)) ≡ is_some (g.part_with class kind members)
   extra-counts class None members known = refl
   extra-counts class (Some kind) [] known = refl
-  extra-counts class (Some guard.Copies) (m ∷ ms) known =
+  extra-counts class (Some kind) (m ∷ ms) known =
       let Is = λ (m : Member). d.is_text names m.name.item.0 (part_name (text_of names class.item)) in
-      let copies = map (first_member names class.at) (m ∷ ms) ++ map (second_member names class.at) (m ∷ ms) in
-      list_any-append Is copies _ ∙ ap (λ y. list_any Is copies ||
+      let part : Part = record { class = class; members = m ∷ ms } in
+      let added = (z.code_of kind).members names part in
+      list_any-append Is added _ ∙ ap (λ y. list_any Is added ||
       (y || (Is (made.member class.at type_of.Mutex (mutex names class.item)) || false)))
-      (known-counter class.item (subst (AreKnown names)
-      (texts-are names guard.Copies (record { class = class; members = m ∷ ms })) known).0)
-      ∙ or-true (list_any Is copies)
+      (known-counter class.item (subst (AreKnown names) (texts-are names kind part) known).0)
+      ∙ or-true (list_any Is added)
 
   there : (xs : List (List ℕ)) (k : ℕ) → k < length xs → slice_get xs k ≡ Some (unwrap_or (slice_get xs k) [])
   there [] k below = absurd (omega arith)

@@ -5,7 +5,7 @@ use Rattle.std.proofs.lemmas.List.{map-append}
 use Rattle.agxx_base.specs.Names.{is_known}
 use Rattle.agxx_base.specs.declared.ids.NameId.{NameId}
 use Rattle.cxx_tree.specs.ProgramTree as p
-use Rattle.cxx_tree.specs.ProgramTree.{FunctionTree, DeclTree, ProgramTree}
+use Rattle.cxx_tree.specs.ProgramTree.{DeclTree}
 use Rattle.cxx_names.specs.declared.declarations.Declared.{Declared}
 use Rattle.cxx_names.specs.Declarations.{declared}
 use Rattle.cxx_distinct.specs.NamesIn as n

@@ -1,13 +1,10 @@
 -- The words of the parts of protected classes.
-use Rattle.std.proofs.Common.{◌≡◌, ℕ, refl, ap, subst, ◌∙◌, Bool, true, false, not, ◌&&◌, if◌then◌else◌, List, [], ◌∷◌, ◌++◌, map, filter, codes, Option, Some, None}
+use Rattle.std.proofs.Common.{◌≡◌, ℕ, refl, ap, subst, ◌∙◌, Bool, true, false, not, ◌&&◌, if◌then◌else◌, List, [], ◌∷◌, ◌++◌, map, filter, Option, Some, None}
 use Rattle.std.specs.List.{flat_map}
-use Rattle.std.specs.Str.{bytes_eq}
 use Rattle.std.proofs.lemmas.List.{append-nil}
 use Rattle.std.proofs.lemmas.List.Elements.{filter-append}
-use Rattle.agxx_base.specs.Names.{is_known, number_of}
-use Rattle.agxx_base.proofs.Interning.{at-number}
+use Rattle.agxx_base.specs.Names.{is_known}
 use Rattle.agxx_base.specs.declared.ids.NameId.{NameId}
-use Rattle.agxx_base.specs.declared.place.Place.{Place}
 use Rattle.cxx_tree.specs.declared.node.Placed.{Placed}
 use Rattle.cxx_tree.specs.declared.program.Member.{Member}
 use Rattle.cxx_tree.specs.Limits.{Every}
@@ -17,14 +14,12 @@ use Rattle.cxx_names.specs.declared.declarations.Declared.{Declared}
 use Rattle.cxx_names.specs.Declarations as d
 use Rattle.cxx_layout.specs.Parts.{part_name}
 use Rattle.cxx_distinct.specs.NamesIn as n
-use Rattle.cxx_normal.proofs.Lists.{every-append}
 use Rattle.cxx_make.specs.Generated.{text_of}
 use Rattle.guards.specs.declared.guard.Guard.{Guard}
 use Rattle.guards.specs.declared.guard.GuardKind.{GuardKind}
-use Rattle.guards.specs.declared.guard.GuardKind.TheVariants as guard
 use Rattle.guards.specs.Guarding.{kind_of}
 use Rattle.codec.specs.declared.part.Part.{Part}
-use Rattle.codec.specs.Copies.{copies, first_member, second_member}
+use Rattle.codec.specs.Part.{place_of}
 use Rattle.entry_count.specs.PartCode.{counter_member, lock_member}
 use Rattle.protect.specs.GuardedParts as g
 use Rattle.protect.specs.Protected as z
@@ -34,6 +29,7 @@ use Rattle.protect_laws.specs.Guarded.{class_in, Pairwise, extra_members, is_wor
 use Rattle.protect_laws.proofs.Exits.{front-of, back-of}
 use Rattle.protect_laws.proofs.StripStmts.{NotGenerated, front, back}
 use Rattle.protect_laws.proofs.Known.{every-by}
+use Rattle.protect_laws.proofs.CodeNames.{members-are-part-words}
 use Rattle.protect_laws.proofs.Shapes.{texts-are}
 use Rattle.protect_laws.proofs.Members.{Own, other-text, known-counter, members-own, members-added}
 
@@ -68,52 +64,26 @@ module _ (names : List (List ℕ)) where
 
     -- ---- members that the code adds
 
-    other-name : (text : List ℕ) → bytes_eq text counter_text ≡ false → Known text
-        → d.is_text names (number_of names text) counter_text ≡ false
-    other-name text differ known = rw (at-number names text known) differ
-
     all-kept : (ms : List Member) → Every IsPartWord ms → filter (is_part_word names class) ms ≡ ms
     all-kept [] all = refl
     all-kept (m ∷ ms) all = rw (all.0) (ap (λ x. m ∷ x) (all-kept ms all.1))
 
-    first-words : (at : Place) (ms : List Member) → Every Known
-        (map (λ m. codes "__gop_c1_" ++ m) (map (text_of names) (map (λ (m : Member). m.name.item) ms)))
-        → Every IsPartWord (map (first_member names at) ms)
-    first-words at [] all = tt
-    first-words at (m ∷ ms) all =
-        (ap not (other-name (codes "__gop_c1_" ++ text_of names m.name.item) refl all.0), first-words at ms all.1)
-
-    second-words : (at : Place) (ms : List Member) → Every Known
-        (map (λ m. codes "__gop_c2_" ++ m) (map (text_of names) (map (λ (m : Member). m.name.item) ms)))
-        → Every IsPartWord (map (second_member names at) ms)
-    second-words at [] all = tt
-    second-words at (m ∷ ms) all =
-        (ap not (other-name (codes "__gop_c2_" ++ text_of names m.name.item) refl all.0), second-words at ms all.1)
-
   -- ---- all of them
 
-  extra-words : (class : Placed NameId) (members : List Member) → let part : Part =
-      record { class = class; members = members } in AreKnown names (texts_of_part names (Some (guard.Copies, part)))
-      → filter (is_part_word names class.item) (extra_members names (Some (guard.Copies, part)))
-      ≡ copies.members names part
-  extra-words class members all =
-      let part : Part = record { class = class; members = members } in
-      let known = subst (AreKnown names) (texts-are names guard.Copies part) all in
-      let texts = map (text_of names) (map (λ (m : Member). m.name.item) members) in
-      let firsts = map (λ m. codes "__gop_c1_" ++ m) texts in
-      let seconds = map (λ m. codes "__gop_c2_" ++ m) texts in
-      let both = front-of Known (firsts ++ seconds) _ known.1.1.1.1.1.1 in
-      let first = first-words class.item class.at members (front-of Known firsts seconds both) in
-      let second = second-words class.item class.at members (back-of Known firsts seconds both) in
-      let added = copies.members names part in
-      let one = all-kept class.item added (every-append (IsPartWord class.item)
-      (map (first_member names class.at) members) (map (second_member names class.at) members) first second) in
-      let counter = counter_member names class.at class.item in
-      let lock = lock_member names class.at class.item in
-      let none : filter (is_part_word names class.item) (counter ∷ lock ∷ []) ≡ [] =
-      rw (known-counter names class.item known.0) refl in
-      filter-append (is_part_word names class.item) added (counter ∷ lock ∷ [])
-      ∙ ap (λ x. x ++ filter (is_part_word names class.item) (counter ∷ lock ∷ [])) one ∙ ap (λ x. added ++ x) none
+  extra-words : (kind : GuardKind) (part : Part) → AreKnown names (texts_of_part names (Some (kind, part)))
+      → filter (is_part_word names part.class.item) (extra_members names (Some (kind, part)))
+      ≡ (z.code_of kind).members names part
+  extra-words kind part all =
+      let class = part.class.item in
+      let known = subst (AreKnown names) (texts-are names kind part) all in
+      let added = (z.code_of kind).members names part in
+      let one = all-kept class added (members-are-part-words names kind part known.1.1.1.1.1.1) in
+      let counter = counter_member names (place_of part) class in
+      let lock = lock_member names (place_of part) class in
+      let none : filter (is_part_word names class) (counter ∷ lock ∷ []) ≡ [] =
+      rw (known-counter names class known.0) refl in
+      filter-append (is_part_word names class) added (counter ∷ lock ∷ [])
+      ∙ ap (λ x. x ++ filter (is_part_word names class) (counter ∷ lock ∷ [])) one ∙ ap (λ x. added ++ x) none
       ∙ append-nil added
 
   words-by : (c woven : ClassTree) (kind : Option GuardKind) (members : List Member) → woven.name ≡ c.name
@@ -122,13 +92,13 @@ module _ (names : List (List ℕ)) where
       → HasItsWords names c woven (g.part_with c.name kind members)
   words-by c woven None members name all own known = tt
   words-by c woven (Some kind) [] name all own known = tt
-  words-by c woven (Some guard.Copies) (m ∷ ms) name all own known =
-      let of_part = extra_members names (g.part_with c.name (Some guard.Copies) (m ∷ ms)) in
+  words-by c woven (Some kind) (m ∷ ms) name all own known =
+      let of_part = extra_members names (g.part_with c.name (Some kind) (m ∷ ms)) in
       let test = is_part_word names c.name.item in
       ap (λ (x : Placed NameId). filter (is_part_word names x.item) (g.members_of woven)) name ∙ ap (filter test) all
       ∙ filter-append test (g.members_of c) of_part ∙ ap (λ x. x ++ filter test of_part)
       (source-words c.name.item (g.members_of c) own) ∙ ap (λ x. filter is_word (g.members_of c) ++ x)
-      (extra-words c.name (m ∷ ms) known)
+      (extra-words kind (record { class = c.name; members = m ∷ ms }) known)
 
   module _ (guards : List Guard) (x : Declared) (lists : List (List NameId)) where
     class-words : (c : ClassTree) → NotGenerated names (n.names_in_class c)

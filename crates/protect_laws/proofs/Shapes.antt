@@ -7,7 +7,6 @@ use Rattle.cxx_tree.specs.ExprTree.{ExprTree}
 use Rattle.cxx_tree.specs.StmtTree as s
 use Rattle.cxx_tree.specs.StmtTree.{StmtTree, StmtTrees}
 use Rattle.cxx_tree.specs.ProgramTree as p
-use Rattle.cxx_tree.specs.ProgramTree.{ItemTree}
 use Rattle.cxx_normal.specs.Entry.{ends_with_return}
 use Rattle.cxx_make.specs.Generated.{text_of, named, numbered}
 use Rattle.cxx_make.specs.Made as made

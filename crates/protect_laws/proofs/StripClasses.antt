@@ -14,7 +14,7 @@ use Rattle.cxx_tree.specs.declared.program.TypeName.TheVariants as type_of
 use Rattle.cxx_tree.specs.Limits.{Every}
 use Rattle.cxx_tree.specs.StmtTree.{BlockTree}
 use Rattle.cxx_tree.specs.ProgramTree as p
-use Rattle.cxx_tree.specs.ProgramTree.{FunctionTree, ItemTree, ClassTree, DeclTree}
+use Rattle.cxx_tree.specs.ProgramTree.{FunctionTree, ItemTree, ClassTree}
 use Rattle.cxx_names.specs.Declarations as d
 use Rattle.cxx_distinct.specs.NamesIn as n
 use Rattle.cxx_normal.specs.Labels.{same_access}
@@ -22,17 +22,15 @@ use Rattle.cxx_normal.specs.Normal.{rebuilt_class}
 use Rattle.cxx_normal.proofs.Lists.{every-append}
 use Rattle.cxx_make.specs.Generated.{text_of}
 use Rattle.guards.specs.declared.guard.GuardKind.{GuardKind}
-use Rattle.guards.specs.declared.guard.GuardKind.TheVariants as guard
 use Rattle.codec.specs.declared.part.Part.{Part}
-use Rattle.codec.specs.Copies.{first_member, second_member}
 use Rattle.entry_count.specs.PartCode.{part_members, part_functions}
 use Rattle.entry_count.specs.Wrapping as w
 use Rattle.protect.specs.Protected as z
 use Rattle.protect.specs.GeneratedNames.{texts_of_part}
 use Rattle.protect_laws.specs.Strip.{is_generated, is_value, AreKnown, stripped_block, stripped_item}
-use Rattle.protect_laws.proofs.Exits.{front-of, back-of}
 use Rattle.protect_laws.proofs.StripStmts.{NotGenerated, body-stripped, front, back}
 use Rattle.protect_laws.proofs.Known.{generated-named}
+use Rattle.protect_laws.proofs.CodeNames.{members-are-generated}
 use Rattle.protect_laws.proofs.Shapes.{value_local, texts-are, items-are, counter-is, mutex-is, repair-is, renew-is, enter-is, leave-is}
 use Rattle.protect_laws.proofs.Guarded.{AreNamed, enters-generated, leaves-generated}
 use Rattle.protect_laws.proofs.Returns.{ReturnsWithin}
@@ -90,42 +88,18 @@ module _ (names : List (List ℕ)) where
   functions-dropped [] all = refl
   functions-dropped (f ∷ fs) all = rw (all.0) (functions-dropped fs all.1)
 
-  first-generated : (at : Place) (ms : List Member) → Every Known
-      (map (λ m. codes "__gop_c1_" ++ m) (map (text_of names) (map (λ (m : Member). m.name.item) ms)))
-      → Every (λ (m : Member). Generated m.name.item) (map (first_member names at) ms)
-  first-generated at [] all = tt
-  first-generated at (m ∷ ms) all =
-      (generated-named names (codes "__gop_c1_" ++ text_of names m.name.item) refl all.0, first-generated at ms all.1)
-
-  second-generated : (at : Place) (ms : List Member) → Every Known
-      (map (λ m. codes "__gop_c2_" ++ m) (map (text_of names) (map (λ (m : Member). m.name.item) ms)))
-      → Every (λ (m : Member). Generated m.name.item) (map (second_member names at) ms)
-  second-generated at [] all = tt
-  second-generated at (m ∷ ms) all =
-      (generated-named names (codes "__gop_c2_" ++ text_of names m.name.item) refl all.0, second-generated at ms all.1)
-
   pub members-generated : (kind : GuardKind) (part : Part) → AreKnown names (texts_of_part names (Some (kind, part)))
       → Every (λ (m : Member). Generated m.name.item) (part_members (z.code_of kind) names part)
-  members-generated guard.Copies part all =
-      let known = subst (AreKnown names) (texts-are names guard.Copies part) all in
+  members-generated kind part all =
+      let known = subst (AreKnown names) (texts-are names kind part) all in
       let class = text_of names part.class.item in
-      let texts = map (text_of names) (map (λ (m : Member). m.name.item) part.members) in
-      let firsts = map (λ m. codes "__gop_c1_" ++ m) texts in
-      let seconds = map (λ m. codes "__gop_c2_" ++ m) texts in
-      let copies = front-of Known (firsts ++ seconds) _ known.1.1.1.1.1.1 in
-      let Made = λ (m : Member). Generated m.name.item in
-      let at = part.class.at in
-      let first = first-generated at part.members (front-of Known firsts seconds copies) in
-      let second = second-generated at part.members (back-of Known firsts seconds copies) in
-      let both = every-append Made (map (first_member names at) part.members)
-      (map (second_member names at) part.members) first second in
       let id = part.class.item in
       let counter = ap (is_generated names) (counter-is names id)
       ∙ generated-named names (codes "__gop_n_" ++ class) refl known.0 in
       let mutex = ap (is_generated names) (mutex-is names id)
       ∙ generated-named names (codes "__gop_l_" ++ class) refl known.1.0 in
-      every-append Made (map (first_member names at) part.members ++ map (second_member names at) part.members) _ both
-      (counter, (mutex, tt))
+      every-append (λ (m : Member). Generated m.name.item) ((z.code_of kind).members names part) _
+      (members-are-generated names kind part known.1.1.1.1.1.1) (counter, (mutex, tt))
 
   functions-generated : (kind : GuardKind) (part : Part) → AreKnown names (texts_of_part names (Some (kind, part)))
       → Every (λ (f : FunctionTree). Generated f.name.item) (part_functions (z.code_of kind) names part)

@@ -39,7 +39,8 @@ pub fn parts_are_guarded()
     ensures words { WordsAreAdded }
 {}
 
-/// A protected program is within the limits of woven programs, where its source is within those of sources.
+/// A protected program is within the limits of woven programs, where its source is within those of sources and each of
+/// its parts has 120 members at most.
 pub fn protected_fits_woven()
     ensures { ProtectedFitsWoven }
 {}

@@ -1,4 +1,3 @@
-use Rattle.std.proofs.Common.{◌≡◌}
 use Rattle.entry_count.proofs.Leaves.{next_value}
 use Rattle.entry_count.proofs.part_names.value_texts.Goals as goal
 
