@@ -210,7 +210,7 @@ module _ (at : Place) (class : ClassId) where
 
   -- ---- each member and copy is a word
 
-  before-others : (b d : List CoreWord) (name : ℕ) → IsWord class b class name → IsWord class (b ++ d) class name
+  pub before-others : (b d : List CoreWord) (name : ℕ) → IsWord class b class name → IsWord class (b ++ d) class name
   before-others b d name h = record {
     owner_is = refl;
     place = h.place;
@@ -220,7 +220,7 @@ module _ (at : Place) (class : ClassId) where
     name_is = h.name_is;
   }
 
-  behind : (a b : List CoreWord) (name : ℕ) → IsWord class b class name → IsWord class (a ++ b) class name
+  pub behind : (a b : List CoreWord) (name : ℕ) → IsWord class b class name → IsWord class (a ++ b) class name
   behind a b name h =
       record {
         owner_is = refl;
@@ -231,7 +231,7 @@ module _ (at : Place) (class : ClassId) where
         name_is = h.name_is;
       }
 
-  here : (w : CoreWord) (ws : List CoreWord) → IsWord class (w ∷ ws) class w.name
+  pub here : (w : CoreWord) (ws : List CoreWord) → IsWord class (w ∷ ws) class w.name
   here w ws = record { owner_is = refl; place = 0; word = w; word_is = refl; name_is = refl }
 
   module _ (g : Copied → CoreWord) where

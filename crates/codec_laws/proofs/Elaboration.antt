@@ -28,7 +28,7 @@ use Rattle.codec.specs.Copies as copies
 use Rattle.codec_laws.specs.Blocks.{Copied, first_of, second_of, own_left, own, repair_block, renew_block}
 use Rattle.codec_laws.specs.Elaboration.{number_kind_of, copied, all_copied, IsMember, AreMembers, AllNewTo, AreFound, CopiesElaborate}
 
-unsigned-is : (t : TypeName) → unsigned_type t ≡ unsigned_kind (number_kind_of t)
+pub unsigned-is : (t : TypeName) → unsigned_type t ≡ unsigned_kind (number_kind_of t)
 unsigned-is (type_of.Num k) = refl
 unsigned-is type_of.Int = refl
 unsigned-is type_of.Unsigned = refl
@@ -43,7 +43,7 @@ module _ (w : Within) (at : Place) (class : ClassId) where
       → variable_at w scope (made.ref at (record { 0 = name })) ≡ Some v
   in-scope scope name v new e = (rw new refl) ∙ e
 
-  left-member : (scope : Scope) (word : CoreWord) → named scope word.name ≡ None → IsMember w at class word
+  pub left-member : (scope : Scope) (word : CoreWord) → named scope word.name ≡ None → IsMember w at class word
       → left_at w scope (made.left at (record { 0 = word.name })) ≡ Some (own_left at class word)
   left-member scope word new h = ap (left_by (made.ref at (record { 0 = word.name })))
       (in-scope scope word.name _ new h.1)
@@ -52,11 +52,11 @@ module _ (w : Within) (at : Place) (class : ClassId) where
       → left_at w scope (made.left at (record { 0 = name })) ≡ Some (c.variable (c.local name (type.Number k)))
   left-local scope name k e = rw e refl
 
-  read-member : (scope : Scope) (word : CoreWord) → named scope word.name ≡ None → IsMember w at class word
+  pub read-member : (scope : Scope) (word : CoreWord) → named scope word.name ≡ None → IsMember w at class word
       → core_expr w scope (made.variable at (record { 0 = word.name })) ≡ own at class word
   read-member scope word new h = ap (read_as at) (left-member scope word new h)
 
-  read-local : (scope : Scope) (name : ℕ) (k : NumKind) → named scope name ≡ Some (thing.Value (type.Number k))
+  pub read-local : (scope : Scope) (name : ℕ) (k : NumKind) → named scope name ≡ Some (thing.Value (type.Number k))
       → core_expr w scope (made.variable at (record { 0 = name })) ≡ c.read (c.variable (c.local name (type.Number k)))
   read-local scope name k e = ap (read_as at) (left-local scope name k e)
 
@@ -116,10 +116,10 @@ module _ (w : Within) (at : Place) (class : ClassId) where
       by false later e = later e
 
   module _ (scope : Scope) (name : ℕ) (t : Thing) (new : named scope name ≡ None) where
-    with-there : named (with_name scope name t) name ≡ Some t
+    pub with-there : named (with_name scope name t) name ≡ Some t
     with-there = ap (λ s. named s name) (at-end scope name t new) ∙ named-end scope name t new
 
-    with-other : (other : ℕ) → named scope other ≡ None → other ≢ name → named (with_name scope name t) other ≡ None
+    pub with-other : (other : ℕ) → named scope other ≡ None → other ≢ name → named (with_name scope name t) other ≡ None
     with-other other e n = ap (λ s. named s other) (at-end scope name t new) ∙ named-other scope name other t e n
 
     all-with : (ms : List Copied) → AllNewIn scope ms → AllNewTo w at class name ms

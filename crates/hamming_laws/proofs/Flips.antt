@@ -1,8 +1,6 @@
 -- Inverted bits of words, words of zeros, and words that fit.
-use Rattle.std.proofs.Common.{◌≡◌, ◌≢◌, ◌⊎◌, inl, inr, ℕ, zero, suc, ◌+◌, ◌*◌, ◌/◌, ◌%◌, ◌^◌, ◌<◌, ◌≤◌, Bool, true, false, not, nat_eq, List, [], ◌∷◌, ◌++◌, length, map, take, replicate, Option, Some, None, option_map, unwrap_or, slice_get, slice_set, bit_xor, refl, sym, ap, ap₂, ◌∙◌, arith, subst, length-append, length-set, length-take-le}
-use Rattle.std.specs.Int.{bit_at}
+use Rattle.std.proofs.Common.{◌≡◌, ◌≢◌, ◌↔◌, ◌⊎◌, inl, inr, ℕ, zero, suc, ◌+◌, ◌*◌, ◌/◌, ◌%◌, ◌^◌, ◌<◌, ◌≤◌, Bool, true, false, nat_eq, List, [], ◌∷◌, ◌++◌, length, map, take, replicate, Option, Some, None, option_map, unwrap_or, slice_get, bit_xor, refl, sym, ap, ◌∙◌, arith, subst, length-set}
 use Rattle.std.proofs.lemmas.Nat.{shr-shr, shr_split, mod_below, pow_pos}
-use Rattle.std.proofs.lemmas.Nat.Bits.{bit_at-zero}
 use Rattle.std.proofs.lemmas.Option.{none-some, same_Some, slice_get-map, slice_get_within}
 use Rattle.std.proofs.lemmas.Bool.{cases_lt, cases_eq, ltb-true}
 use Rattle.agxx_base.specs.declared.kind.NumKind.{NumKind}
@@ -10,15 +8,16 @@ use Rattle.agxx_base.specs.declared.kind.NumKind.TheVariants as num
 use Rattle.cxx_arith.specs.Kinds.{width}
 use Rattle.codec.specs.Copies.{IsFlipped, IsSingle}
 use Rattle.codec_laws.specs.Values.{Fit, KeepsValues}
-use Rattle.hamming_gen.specs.HammingWords.{Slot, slots, all_kinds, extra_words, is_set, is_odd, sums, place_bits, mended_place, added_place, encoded, repaired, repaired_place, beyond, words_of}
-use Rattle.hamming_laws.specs.Places.{IsRight, IsWithin, inverted}
+use Rattle.hamming_gen.specs.HammingWords.{Slot, slots, all_kinds, extra_words, is_set, is_odd, sums, place_bits, mended_place, added_place, encoded, repaired, beyond, words_of}
+use Rattle.hamming_laws.specs.Places.{IsRight, IsLost, IsWithin, inverted}
+use Rattle.hamming_laws.specs.Masks.{AllUnder}
 use Rattle.hamming_laws.specs.Words.{WordsMend, words_alone}
-use Rattle.hamming_laws.proofs.Bits.{is_set-zero, is_set-above, same-bit, same-numbers}
-use Rattle.hamming_laws.proofs.Sums.{IsInverted, mended-cases, right-stays, single-is-undone, double-is-noticed, length-inverted}
+use Rattle.hamming_laws.proofs.Bits.{is_set-zero, is_set-above, same-numbers}
+use Rattle.hamming_laws.proofs.Sums.{IsInverted, mended-cases, right-stays, single-is-undone, double-is-noticed}
 use Rattle.hamming_laws.proofs.PositionsOfWords.{all-apart, length-slots, widths-of}
-use Rattle.hamming_laws.proofs.Places.{length-map}
-use Rattle.hamming_laws.proofs.Rebuilt.{AllUnder, length-place_bits, flipped-bits, other-bits, words_of-under, length-words_of}
-use Rattle.hamming_laws.proofs.Words.{AllRight, narrow, fit-under, fit-length, length-kinds, length-encoded, encoded-under, encoded-right, encoded-fits, right-is-encoded, is-beyond, beyond-place, repaired-is, right-stays-so, repaired-bits, length-repaired, repaired-under, repaired-stays, repaired-is-encoded}
+use Rattle.hamming_laws.proofs.Lost.{none-is-lost, lost-is-none}
+use Rattle.hamming_laws.proofs.Rebuilt.{length-place_bits, flipped-bits, other-bits}
+use Rattle.hamming_laws.proofs.Words.{narrow, fit-under, fit-length, length-kinds, length-encoded, encoded-under, encoded-right, encoded-fits, right-is-encoded, is-beyond, beyond-place, repaired-is, right-stays-so, repaired-bits, length-repaired, repaired-under, repaired-stays, repaired-is-encoded}
 
 -- ---- one inverted bit
 
@@ -291,6 +290,21 @@ pub words-fit : (kinds : List NumKind) (words : List ℕ) → Fit (all_kinds kin
     → length words ≡ length (slots kinds)
 words-fit kinds words h = fit-length (all_kinds kinds) words h ∙ length-kinds kinds ∙ sym (length-slots kinds)
 
+pub lost-somewhere : (kinds : List NumKind) (words : List ℕ) → Fit (all_kinds kinds) words
+    → (beyond kinds words ≡ true) ↔ ((place : ℕ) × (place < 64) × IsLost (slots kinds) place (place_bits place words))
+lost-somewhere kinds words h = (
+  λ e. there (beyond-place kinds words e),
+  λ s. is-beyond kinds words s.0 s.1
+      (lost-is-none kinds s.0 (place_bits s.0 words) s.1 (size s.0) s.2),
+)
+  where
+    size : (place : ℕ) → length (place_bits place words) ≡ length (slots kinds)
+    size place = length-place_bits place words ∙ words-fit kinds words h
+
+    there : (place : ℕ) × (place < 64) × (mended_place (slots kinds) place (place_bits place words) ≡ None)
+        → (place : ℕ) × (place < 64) × IsLost (slots kinds) place (place_bits place words)
+    there (place, l, e) = (place, l, none-is-lost kinds place (place_bits place words) l (size place) e)
+
 pub keeps-values : KeepsValues words_alone
 keeps-values = record {
   kinds_length = length-kinds;
@@ -308,6 +322,7 @@ pub words-mend : WordsMend
 words-mend = record {
   keeps = keeps-values;
   beyond_somewhere = λ kinds words. (beyond-place kinds words, λ h. is-beyond kinds words h.0 h.1 h.2);
+  lost_somewhere = lost-somewhere;
   repaired_fits = repaired-fits;
   repaired_bits = λ kinds words place h l. repaired-bits kinds words place l;
   repaired_is_encoded = λ kinds words h e. repaired-is-encoded kinds words (words-fit kinds words h) e;

@@ -1,8 +1,15 @@
 pub mod Bits
 pub mod Sums
 pub mod PositionsOfWords
+pub mod Lost
 pub mod Places
 pub mod Rebuilt
 pub mod Words
 pub mod Flips
+pub mod Operations
+pub mod Faults
+pub mod PlaceSums
+pub mod PlaceFaults
+pub mod Masks
+pub mod WordValues
 pub mod Examples

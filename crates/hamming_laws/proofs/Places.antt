@@ -1,13 +1,15 @@
 -- The laws of one bit place.
-use Rattle.std.proofs.Common.{◌≡◌, ℕ, zero, suc, ◌+◌, ◌^◌, ◌<◌, ◌≤◌, Bool, false, List, [], ◌∷◌, ◌++◌, length, map, take, drop, bit_xor, refl, sym, ap, ap₂, ◌∙◌, arith, append_assoc, length-append, length-drop, length-take-le, take-append-drop, subst}
+use Rattle.std.proofs.Common.{◌≡◌, ℕ, zero, suc, ◌+◌, Bool, List, [], ◌∷◌, ◌++◌, length, map, take, drop, bit_xor, refl, sym, ap, ap₂, ◌∙◌, arith, append_assoc, length-append, length-drop, length-take-le, take-append-drop, subst}
 use Rattle.std.specs.Int.Bits.{xor_self, xor_zero_r}
 use Rattle.std.specs.List.{range_with_len}
+use Rattle.std.proofs.lemmas.List.{length-map}
 use Rattle.agxx_base.specs.declared.kind.NumKind.{NumKind}
 use Rattle.hamming_gen.specs.Positions.{check_words}
 use Rattle.hamming_gen.specs.HammingWords.{slots, member_slots, parity_slot, is_set, is_odd, sums, check_bits, checked_place, added_place, extra_words}
 use Rattle.hamming_laws.specs.Places.{IsRight, PlacesMend}
 use Rattle.hamming_laws.proofs.Bits.{differ, differ-self, differ-same, is_odd-append, is_odd-one, xor-same}
 use Rattle.hamming_laws.proofs.Sums.{digits-are-sums, sums-append, sums-parity, sums-below, from_number, sums-checks, only-checks, right-stays, mended-is-right, single-is-undone, double-is-noticed}
+use Rattle.hamming_laws.proofs.Lost.{none-is-lost, lost-is-none}
 use Rattle.hamming_laws.proofs.PositionsOfWords.{added, all-apart, all-below, length-members, length-slots}
 
 -- ---- the bits that are added
@@ -16,14 +18,10 @@ pub length-range : (j n : ℕ) → length (range_with_len j n) ≡ n
 length-range j zero = refl
 length-range j (suc n) = ap (λ m. suc m) (length-range (j + 1) n)
 
-pub length-map : {A B : Type 0} (f : A → B) (l : List A) → length (map f l) ≡ length l
-length-map f [] = refl
-length-map f (x ∷ l) = ap (λ m. suc m) (length-map f l)
-
 pub length-checks : (r sum : ℕ) → length (check_bits r sum) ≡ r
-length-checks r sum = length-map (is_set sum) (range_with_len 0 r) ∙ length-range 0 r
+length-checks r sum = length-map (range_with_len 0 r) (is_set sum) ∙ length-range 0 r
 
-length-from : (j n : ℕ) → length (from_number j n) ≡ n
+pub length-from : (j n : ℕ) → length (from_number j n) ≡ n
 length-from j zero = refl
 length-from j (suc n) = ap (λ m. suc m) (length-from (j + 1) n)
 
@@ -34,7 +32,7 @@ length-added_place kinds bits =
     ∙ ap (λ n. n + 1) (length-checks (check_words (length kinds)) (sums (member_slots 3 kinds) bits))
 
 -- the sums of bits of members, of check words and of the parity word
-sums-of : (kinds : List NumKind) (m c : List Bool) (p : Bool) → length m ≡ length kinds
+pub sums-of : (kinds : List NumKind) (m c : List Bool) (p : Bool) → length m ≡ length kinds
     → length c ≡ check_words (length kinds)
     → sums (slots kinds) (m ++ (c ++ p ∷ []))
     ≡ bit_xor (sums (member_slots 3 kinds) m) (sums (from_number 0 (check_words (length kinds))) c)
@@ -45,7 +43,7 @@ sums-of kinds m c p e f =
     (sums-append (from_number 0 r) (parity_slot ∷ []) c (p ∷ []) (f ∙ sym (length-from 0 r))
     ∙ ap (bit_xor (sums (from_number 0 r) c)) (sums-parity p) ∙ xor_zero_r (sums (from_number 0 r) c))
 
-odd-of : (m c : List Bool) (p : Bool) → is_odd (m ++ (c ++ p ∷ [])) ≡ differ (is_odd (m ++ c)) p
+pub odd-of : (m c : List Bool) (p : Bool) → is_odd (m ++ (c ++ p ∷ [])) ≡ differ (is_odd (m ++ c)) p
 odd-of m c p =
     ap is_odd (sym (append_assoc m c (p ∷ []))) ∙ is_odd-append (m ++ c) (p ∷ [])
     ∙ ap (differ (is_odd (m ++ c))) (is_odd-one p)
@@ -125,6 +123,7 @@ places-mend = record {
   right_is_added = right-is-added;
   right_stays = λ kinds place bits h. right-stays (slots kinds) place bits h;
   mended_is_right = λ kinds place bits after e. mended-is-right (slots kinds) place bits after e;
+  lost_exactly = λ kinds place bits l e. (none-is-lost kinds place bits l e, lost-is-none kinds place bits l e);
   single_is_undone = λ kinds place i bits e h w.
       single-is-undone (slots kinds) place bits e (all-apart kinds) h i w;
   double_is_noticed = λ kinds place i j bits e h p q n.

@@ -1,11 +1,10 @@
 -- The number of check words, and where words stand.
-use Rattle.std.proofs.Common.{◌≡◌, ◌≢◌, ◌⊎◌, inl, inr, ℕ, zero, suc, ◌+◌, ◌-◌, ◌*◌, ◌^◌, ◌<◌, ◌≤◌, Bool, true, false, nat_eq, nat_le, if◌then◌else◌, cond, List, [], ◌∷◌, ◌++◌, length, map, replicate, Some, slice_get, count_ones, refl, sym, ap, ap₂, ◌∙◌, arith, eq-eqb, ne_eqb, subst, pow-suc, pow_mono, length-append}
+use Rattle.std.proofs.Common.{◌≡◌, ◌≢◌, ◌⊎◌, inl, inr, ℕ, zero, suc, ◌+◌, ◌-◌, ◌*◌, ◌^◌, ◌<◌, ◌≤◌, Bool, true, false, if◌then◌else◌, List, [], ◌∷◌, ◌++◌, length, map, replicate, Some, slice_get, count_ones, refl, sym, ap, ap₂, ◌∙◌, arith, eq-eqb, subst, pow-suc, pow_mono, length-append}
 use Rattle.std.specs.Int.{is_power_of_two, IsPowerOfTwo}
 use Rattle.std.specs.Int.Count.{ones, ones_cat}
-use Rattle.std.specs.List.{range_with_len}
 use Rattle.std.proofs.lemmas.Option.{none-some, same_Some}
 use Rattle.std.proofs.lemmas.Nat.{pow_pos, pow_below, zero_from_ones}
-use Rattle.std.proofs.lemmas.Bool.{false≢true, cases_lt, cases_eq, cases_Bool, cases_order, eqb-true, eqb-false, leb-true, leb-false}
+use Rattle.std.proofs.lemmas.Bool.{false≢true, cases_lt, cases_eq, eqb-true, leb-true, leb-false}
 use Rattle.agxx_base.specs.declared.kind.NumKind.{NumKind}
 use Rattle.agxx_base.specs.declared.kind.NumKind.TheVariants as num
 use Rattle.cxx_arith.specs.Kinds.{width}

@@ -1,11 +1,11 @@
 -- Words and their bits at each place.
-use Rattle.std.proofs.Common.{◌≡◌, ◌≢◌, ℕ, zero, suc, ◌+◌, ◌*◌, ◌^◌, ◌<◌, ◌≤◌, Bool, true, false, not, List, [], ◌∷◌, ◌++◌, length, map, replicate, Option, Some, None, slice_get, slice_set, bit_xor, refl, sym, ap, ap₂, ◌∙◌, arith, pow-suc}
-use Rattle.std.proofs.lemmas.Nat.{pow_pos}
+use Rattle.std.proofs.Common.{◌≡◌, ◌≢◌, ℕ, zero, suc, ◌+◌, ◌^◌, ◌<◌, Bool, true, false, not, List, [], ◌∷◌, ◌++◌, length, replicate, Some, slice_get, slice_set, bit_xor, refl, sym, ap, ap₂, ◌∙◌, arith, pow-suc}
+use Rattle.std.proofs.lemmas.List.{length-map, length-replicate}
 use Rattle.std.proofs.lemmas.Option.{none-some, same_Some}
-use Rattle.hamming_gen.specs.HammingWords.{is_set, digit, place_bits, with_lowest, words_from, words_of}
+use Rattle.hamming_gen.specs.HammingWords.{is_set, place_bits, with_lowest, words_from, words_of}
 use Rattle.hamming_laws.specs.Places.{inverted}
+use Rattle.hamming_laws.specs.Masks.{AllUnder}
 use Rattle.hamming_laws.proofs.Bits.{differ, differ-false, digit-lt, is_set-lowest, is_set-upper, is_set-xor, is_set-power, is_set-other_power, same-numbers-below}
-use Rattle.hamming_laws.proofs.Places.{length-map}
 
 -- ---- words made of bits
 
@@ -19,10 +19,6 @@ length-lowest [] [] e = refl
 length-lowest [] (w ∷ words) e = absurd (omega arith)
 length-lowest (b ∷ bits) [] e = absurd (omega arith)
 length-lowest (b ∷ bits) (w ∷ words) e = ap (λ n. suc n) (length-lowest bits words (omega arith))
-
-length-replicate : (n x : ℕ) → length (replicate n x) ≡ n
-length-replicate zero x = refl
-length-replicate (suc n) x = ap (λ m. suc m) (length-replicate n x)
 
 pub length-words_from : (n : ℕ) (bits : ℕ → List Bool) (place more : ℕ) → HaveSize n bits
     → length (words_from n bits place more) ≡ n
@@ -58,11 +54,6 @@ bits-from n bits place (suc more) (suc i) h l =
     (h place ∙ sym (length-words_from n bits (suc place) more h))
     ∙ bits-from n bits (suc place) more i h (omega arith)
     ∙ ap bits (let e : suc place + i ≡ place + suc i = omega arith in e)
-
--- words below a number
-abbrev pub AllUnder : ℕ → List ℕ → Type 0
-AllUnder n [] = Unit {0}
-AllUnder n (w ∷ words) = (w < n) × AllUnder n words
 
 under-zero : (n : ℕ) → AllUnder 1 (replicate n 0)
 under-zero zero = tt
@@ -129,7 +120,7 @@ bits-append place [] b = refl
 bits-append place (w ∷ a) b = ap (λ l. is_set w place ∷ l) (bits-append place a b)
 
 pub length-place_bits : (place : ℕ) (words : List ℕ) → length (place_bits place words) ≡ length words
-length-place_bits place words = length-map (λ w. is_set w place) words
+length-place_bits place words = length-map words (λ w. is_set w place)
 
 -- ---- an inverted bit
 

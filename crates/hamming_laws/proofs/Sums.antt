@@ -1,13 +1,13 @@
 -- The sums at one bit place, and what an inversion does to them.
-use Rattle.std.proofs.Common.{◌≡◌, ◌≢◌, ◌⊎◌, inl, inr, ℕ, zero, suc, ◌+◌, ◌^◌, ◌<◌, ◌≤◌, Bool, true, false, not, nat_eq, nat_lt, if◌then◌else◌, cond, List, [], ◌∷◌, ◌++◌, length, map, Option, Some, None, option_map, slice_get, bit_xor, refl, sym, ap, ap₂, ◌∙◌, arith, eq-eqb, ne_eqb, lt-ltb, subst}
+use Rattle.std.proofs.Common.{◌≡◌, ◌≢◌, ◌⊎◌, inl, inr, ℕ, zero, suc, ◌+◌, ◌^◌, ◌<◌, ◌≤◌, Bool, true, false, not, nat_eq, nat_lt, if◌then◌else◌, List, [], ◌∷◌, ◌++◌, length, map, Option, Some, None, option_map, slice_get, bit_xor, refl, sym, ap, ap₂, ◌∙◌, arith, eq-eqb, ne_eqb, lt-ltb, subst}
 use Rattle.std.specs.Int.Bits.{xor_assoc, xor_self, xor_zero_r}
 use Rattle.std.specs.List.{range_with_len}
-use Rattle.std.proofs.lemmas.Nat.{xor_comm, xor_lt, pow_pos}
+use Rattle.std.proofs.lemmas.Nat.{xor_lt, pow_pos}
 use Rattle.std.proofs.lemmas.Option.{none-some, same_Some, slice_get_within}
 use Rattle.std.proofs.lemmas.Bool.{cases_lt, cases_eq, eqb-true}
 use Rattle.hamming_gen.specs.HammingWords.{Slot, is_set, is_odd, sums, inverted_at, mended_place, check_slot, check_bits, parity_slot}
 use Rattle.hamming_laws.specs.Places.{counted, IsRight, inverted, IsWithin}
-use Rattle.hamming_laws.proofs.Bits.{differ, differ-self, differ-false, not-not, is_odd-append, is_odd-one, is_set-xor, is_set-zero, is_set-power, is_set-other_power, is_set-above, same-numbers, xor-swap, xor-cancel, xor-same}
+use Rattle.hamming_laws.proofs.Bits.{differ, not-not, is_set-xor, is_set-zero, is_set-power, is_set-other_power, is_set-above, same-numbers, xor-swap, xor-cancel, xor-same}
 
 -- ---- digits
 
@@ -67,7 +67,7 @@ sums-below r (s ∷ rest) (false ∷ bits) h = sums-below r rest bits h.1
 abbrev pub from_number : ℕ → ℕ → List Slot
 from_number j n = map check_slot (range_with_len j n)
 
-bits-skip : (j n i : ℕ) (b : Bool) (bits : List Bool) → i ≢ j
+pub bits-skip : (j n i : ℕ) (b : Bool) (bits : List Bool) → i ≢ j
     → is_set (sums (from_number j (suc n)) (b ∷ bits)) i ≡ is_set (sums (from_number (j + 1) n) bits) i
 bits-skip j n i true bits h =
     is_set-xor (2 ^ j) (sums (from_number (j + 1) n) bits) i
@@ -77,7 +77,7 @@ bits-skip j n i false bits h = refl
 apart-above : (i j : ℕ) → i < j → i ≢ j
 apart-above i j h = λ e. omega (arith, h, e)
 
-apart-below : (i j : ℕ) → j < i → i ≢ j
+pub apart-below : (i j : ℕ) → j < i → i ≢ j
 apart-below i j h = λ e. omega (arith, h, e)
 
 bits-low : (j n i : ℕ) (bits : List Bool) → i < j → is_set (sums (from_number j n) bits) i ≡ false
@@ -92,7 +92,7 @@ bits-high j (suc n) i [] h = is_set-zero i
 bits-high j (suc n) i (b ∷ bits) h =
     bits-skip j n i b bits (apart-below i j (omega arith)) ∙ bits-high (j + 1) n i bits (omega arith)
 
-bits-here : (j n : ℕ) (b : Bool) (bits : List Bool) → is_set (sums (from_number j (suc n)) (b ∷ bits)) j ≡ b
+pub bits-here : (j n : ℕ) (b : Bool) (bits : List Bool) → is_set (sums (from_number j (suc n)) (b ∷ bits)) j ≡ b
 bits-here j n true bits =
     is_set-xor (2 ^ j) (sums (from_number (j + 1) n) bits) j
     ∙ ap₂ differ (is_set-power j) (bits-low (j + 1) n j bits (omega arith))
@@ -293,6 +293,10 @@ module _ (part : List Slot) (place : ℕ) (bits : List Bool) where
 
   pub odd-mended : is_odd bits ≡ true → mended_place part place bits ≡ inverted_at place (sums part bits) part bits
   odd-mended h = mended-at true (nat_eq (sums part bits) 0) h refl
+
+  pub even-mended : is_odd bits ≡ false
+      → mended_place part place bits ≡ (if nat_eq (sums part bits) 0 then Some bits else None)
+  even-mended h = mended-at false (nat_eq (sums part bits) 0) h refl
 
   pub even-none : is_odd bits ≡ false → (sums part bits ≡ 0 → ⊥) → mended_place part place bits ≡ None
   even-none h n = mended-at false false h (ne_eqb (sums part bits) 0 n)

@@ -1,19 +1,19 @@
 -- The laws of all words, from those of one bit place.
-use Rattle.std.proofs.Common.{◌≡◌, ◌≢◌, ◌⊎◌, inl, inr, ℕ, zero, suc, ◌+◌, ◌*◌, ◌/◌, ◌%◌, ◌^◌, ◌<◌, ◌≤◌, Bool, true, false, not, ◌||◌, nat_lt, is_none, List, [], ◌∷◌, ◌++◌, length, map, take, replicate, Option, Some, None, option_map, unwrap_or, slice_get, slice_set, bit_xor, refl, sym, ap, ap₂, ◌∙◌, arith, subst, length-append, length-set, length-take-le, take-append-drop, pow_mono}
-use Rattle.std.proofs.lemmas.Option.{none-some, same_Some, slice_get-map, slice_get_within}
-use Rattle.std.proofs.lemmas.Bool.{cases_lt, cases_eq, false≢true, ltb-true}
+use Rattle.std.proofs.Common.{◌≡◌, ◌⊎◌, inl, inr, ℕ, zero, suc, ◌+◌, ◌^◌, ◌<◌, ◌≤◌, Bool, true, false, ◌||◌, is_none, List, [], ◌∷◌, ◌++◌, length, take, replicate, Option, Some, None, unwrap_or, refl, sym, ap, ap₂, ◌∙◌, arith, subst, length-append, length-take-le, pow_mono}
+use Rattle.std.proofs.lemmas.List.{length-replicate}
+use Rattle.std.proofs.lemmas.Option.{none-some}
+use Rattle.std.proofs.lemmas.Bool.{cases_eq, false≢true}
 use Rattle.agxx_base.specs.declared.kind.NumKind.{NumKind}
 use Rattle.agxx_base.specs.declared.kind.NumKind.TheVariants as num
 use Rattle.cxx_arith.specs.Kinds.{width}
-use Rattle.codec.specs.Copies.{IsFlipped, IsSingle}
 use Rattle.codec_laws.specs.Values.{Fit}
-use Rattle.hamming_gen.specs.HammingWords.{Slot, slots, all_kinds, extra_words, is_set, is_odd, sums, place_bits, mended_place, added_place, encoded, repaired, repaired_place, beyond, beyond_from, words_of}
-use Rattle.hamming_laws.specs.Places.{IsRight, IsWithin, inverted}
-use Rattle.hamming_laws.specs.Words.{WordsMend}
-use Rattle.hamming_laws.proofs.Sums.{IsInverted, right-stays, odd-mended, even-none, mended-cases, mended-size, mended-is-right, single-is-undone, double-is-noticed}
-use Rattle.hamming_laws.proofs.PositionsOfWords.{all-apart, length-slots, widths-of}
-use Rattle.hamming_laws.proofs.Places.{added-is-right, right-is-added, length-added_place, length-map}
-use Rattle.hamming_laws.proofs.Rebuilt.{HaveSize, AllUnder, bits-of, words_of-under, length-words_of, same-words, words-by-bits, bits-append, length-place_bits, flipped-bits, other-bits}
+use Rattle.hamming_gen.specs.HammingWords.{Slot, slots, all_kinds, extra_words, is_set, place_bits, mended_place, added_place, encoded, repaired, repaired_place, beyond, beyond_from, words_of}
+use Rattle.hamming_laws.specs.Places.{IsRight}
+use Rattle.hamming_laws.specs.Masks.{AllUnder}
+use Rattle.hamming_laws.proofs.Sums.{right-stays, mended-size, mended-is-right}
+use Rattle.hamming_laws.proofs.PositionsOfWords.{length-slots}
+use Rattle.hamming_laws.proofs.Places.{added-is-right, right-is-added, length-added_place}
+use Rattle.hamming_laws.proofs.Rebuilt.{HaveSize, bits-of, words_of-under, length-words_of, same-words, words-by-bits, bits-append, length-place_bits}
 
 -- ---- words that fit
 
@@ -45,19 +45,19 @@ fit-length [] (w ∷ words) h = absurd h
 fit-length (k ∷ kinds) [] h = absurd h
 fit-length (k ∷ kinds) (w ∷ words) h = ap (λ n. suc n) (fit-length kinds words h.1)
 
-under-fit : (n : ℕ) (words : List ℕ) → length words ≡ n → AllUnder (2 ^ 64) words → Fit (replicate n num.U64) words
+pub under-fit : (n : ℕ) (words : List ℕ) → length words ≡ n → AllUnder (2 ^ 64) words → Fit (replicate n num.U64) words
 under-fit zero [] e h = tt
 under-fit zero (w ∷ words) e h = absurd (omega arith)
 under-fit (suc n) [] e h = absurd (omega arith)
 under-fit (suc n) (w ∷ words) e h = (h.0, under-fit n words (omega arith) h.1)
 
-fit-append : (a b : List NumKind) (v w : List ℕ) → Fit a v → Fit b w → Fit (a ++ b) (v ++ w)
+pub fit-append : (a b : List NumKind) (v w : List ℕ) → Fit a v → Fit b w → Fit (a ++ b) (v ++ w)
 fit-append [] b [] w h g = g
 fit-append [] b (x ∷ v) w h g = absurd h
 fit-append (k ∷ a) b [] w h g = absurd h
 fit-append (k ∷ a) b (x ∷ v) w h g = (h.0, fit-append a b v w h.1 g)
 
-under-append : (n : ℕ) (a b : List ℕ) → AllUnder n a → AllUnder n b → AllUnder n (a ++ b)
+pub under-append : (n : ℕ) (a b : List ℕ) → AllUnder n a → AllUnder n b → AllUnder n (a ++ b)
 under-append n [] b h g = g
 under-append n (w ∷ a) b h g = (h.0, under-append n a b h.1 g)
 
@@ -66,10 +66,6 @@ under-take n zero a h = tt
 under-take n (suc k) [] h = tt
 under-take n (suc k) (w ∷ a) h = (h.0, under-take n k a h.1)
 
-length-replicate : {A : Type 0} (n : ℕ) (x : A) → length (replicate n x) ≡ n
-length-replicate zero x = refl
-length-replicate (suc n) x = ap (λ m. suc m) (length-replicate n x)
-
 pub length-kinds : (kinds : List NumKind) → length (all_kinds kinds) ≡ length kinds + extra_words (length kinds)
 length-kinds kinds =
     length-append kinds (replicate (extra_words (length kinds)) num.U64)
@@ -77,7 +73,7 @@ length-kinds kinds =
 
 -- ---- what is encoded
 
-added-size : (kinds : List NumKind) (v : List ℕ)
+pub added-size : (kinds : List NumKind) (v : List ℕ)
     → HaveSize (extra_words (length kinds)) (λ place. added_place kinds (place_bits place v))
 added-size kinds v place = length-added_place kinds (place_bits place v)
 
@@ -213,11 +209,11 @@ not-beyond kinds words h = by (beyond kinds words) refl
         let s = beyond-some (slots kinds) words 0 64 e in absurd (h s.place (omega (arith, s.high)) s.none)
 
 -- words of which each place is repaired
-abbrev AllMended : List NumKind → List ℕ → Type 0
+abbrev pub AllMended : List NumKind → List ℕ → Type 0
 AllMended kinds words = (place : ℕ) → place < 64
     → (after : List Bool) × (mended_place (slots kinds) place (place_bits place words) ≡ Some after)
 
-all-mended : (kinds : List NumKind) (words : List ℕ) → beyond kinds words ≡ false → AllMended kinds words
+pub all-mended : (kinds : List NumKind) (words : List ℕ) → beyond kinds words ≡ false → AllMended kinds words
 all-mended kinds words e place l = by (mended_place (slots kinds) place (place_bits place words)) refl
   where
     by : (o : Option (List Bool)) → mended_place (slots kinds) place (place_bits place words) ≡ o

@@ -1,7 +1,6 @@
 -- What is to be known of one bit place, by the words' bits there.
-use Rattle.std.specs.Prelude.{◌≡◌, ◌≢◌, ℕ, zero, suc, ◌<◌, ◌≤◌, Bool, true, false, not, List, [], ◌∷◌, ◌++◌, length, take, Option, Some, None, slice_get, if◌then◌else◌}
+use Rattle.std.specs.Prelude.{◌≡◌, ◌≢◌, ◌↔◌, ℕ, zero, suc, ◌<◌, ◌≤◌, Bool, true, false, not, List, [], ◌∷◌, ◌++◌, length, take, Some, None, slice_get, if◌then◌else◌}
 use Rattle.agxx_base.specs.declared.kind.NumKind.{NumKind}
-use Rattle.hamming_gen.specs.Positions.{check_words}
 use Rattle.hamming_gen.specs.HammingWords.{Slot, slots, is_set, is_odd, sums, mended_place, added_place}
 
 -- the bits whose position has this binary digit
@@ -27,6 +26,13 @@ pub record IsWithin (part : List Slot) (i place : ℕ) : Type 0 where
   pub slot_is : slice_get part i ≡ Some slot
   pub within : place < slot.width
 
+-- the sums aren't 0, and they tell of no bit that could be inverted: the bits are even, or no word of that position has a
+-- bit at the place
+pub record IsLost (part : List Slot) (place : ℕ) (bits : List Bool) : Type 0 where
+  pub sums_not_zero : sums part bits ≢ 0
+  pub no_word : is_odd bits ≡ true → (i : ℕ) (s : Slot) → slice_get part i ≡ Some s → s.position ≡ sums part bits
+      → s.width ≤ place
+
 -- of a part whose members have these unsigned kinds, at any place
 pub record PlacesMend : Type 0 where
   -- digit j of the sums is the sum modulo 2 of the bits whose position has digit j
@@ -43,6 +49,10 @@ pub record PlacesMend : Type 0 where
       → mended_place (slots kinds) place bits ≡ Some bits
   pub mended_is_right : (kinds : List NumKind) (place : ℕ) (bits after : List Bool)
       → mended_place (slots kinds) place bits ≡ Some after → IsRight (slots kinds) after
+  -- exactly what is lost can't be repaired
+  pub lost_exactly : (kinds : List NumKind) (place : ℕ) (bits : List Bool) → place < 64
+      → length bits ≡ length (slots kinds)
+      → (mended_place (slots kinds) place bits ≡ None) ↔ IsLost (slots kinds) place bits
   -- each single inversion below the width of its word is found and undone
   pub single_is_undone : (kinds : List NumKind) (place i : ℕ) (bits : List Bool) → length bits ≡ length (slots kinds)
       → IsRight (slots kinds) bits → IsWithin (slots kinds) i place

@@ -4,7 +4,7 @@ use Rattle.std.specs.Int.{IsPowerOfTwo}
 use Rattle.agxx_base.specs.declared.kind.NumKind.{NumKind}
 use Rattle.cxx_arith.specs.Kinds.{width}
 use Rattle.hamming_gen.specs.Positions.{check_words, next_position}
-use Rattle.hamming_gen.specs.HammingWords.{Slot, slots, member_slots, all_kinds}
+use Rattle.hamming_gen.specs.HammingWords.{Slot, slots, all_kinds}
 
 -- some word has this position
 pub record HasPosition (part : List Slot) (p : ℕ) : Type 0 where

@@ -6,7 +6,7 @@ use Rattle.codec.specs.Codes.{Code}
 use Rattle.codec.specs.Copies.{IsFlipped}
 use Rattle.codec_laws.specs.Values.{Fit, KeepsValues}
 use Rattle.hamming_gen.specs.HammingWords.{slots, all_kinds, extra_words, place_bits, mended_place, encoded, repaired, repaired_place, beyond, IsDamage}
-use Rattle.hamming_laws.specs.Places.{IsRight}
+use Rattle.hamming_laws.specs.Places.{IsLost}
 
 -- the code as far as its words go, with nothing generated
 abbrev pub words_alone : Code
@@ -30,6 +30,9 @@ pub record WordsMend : Type 0 where
   -- words can't be repaired exactly where they can't at some place
   pub beyond_somewhere : (kinds : List NumKind) (words : List ℕ) → (beyond kinds words ≡ true)
       ↔ ((place : ℕ) × (place < 64) × (mended_place (slots kinds) place (place_bits place words) ≡ None))
+  -- that is where some place is lost
+  pub lost_somewhere : (kinds : List NumKind) (words : List ℕ) → Fit (all_kinds kinds) words
+      → (beyond kinds words ≡ true) ↔ ((place : ℕ) × (place < 64) × IsLost (slots kinds) place (place_bits place words))
   -- the words that repair leaves fit, and have at each place the bits that repair leaves there
   pub repaired_fits : (kinds : List NumKind) (words : List ℕ) → Fit (all_kinds kinds) words
       → Fit (all_kinds kinds) (repaired kinds words)

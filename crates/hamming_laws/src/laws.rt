@@ -1,7 +1,9 @@
 //! Laws on definitions alone. Each function does nothing: it carries its law.
 
+ghost use Rattle.hamming_laws.specs.Masks.{MasksArePlaces};
 ghost use Rattle.hamming_laws.specs.Places.{PlacesMend};
 ghost use Rattle.hamming_laws.specs.PositionsOfWords.{PositionsAreAll};
+ghost use Rattle.hamming_laws.specs.WordValues.{WordsAreValues};
 ghost use Rattle.hamming_laws.specs.Words.{WordsMend};
 
 /// The number of check words is the least that is enough, and members and check words have the positions from 1 on, each
@@ -20,4 +22,17 @@ pub fn places_mend()
 /// what repair leaves is what is encoded of its members.
 pub fn words_mend()
     ensures { WordsMend }
+{}
+
+/// The formulas over whole words that the generated statements compute have at each bit place the bits that are meant
+/// there. So they tell exactly which words are beyond repair, and give the words that repair leaves and those that are
+/// encoded of the members.
+pub fn masks_are_places()
+    ensures { MasksArePlaces }
+{}
+
+/// The operations of the formulas are the machine's operators on its values of 64 bits, and a member enters as the bits
+/// of its own width alone, also where it is below 0.
+pub fn words_are_values()
+    ensures { WordsAreValues }
 {}

@@ -1,5 +1,4 @@
 use Rattle.hamming_laws.proofs.Flips.{words-mend}
-use Rattle.hamming_laws.proofs.Examples as examples
 use Rattle.hamming_laws.proofs.laws.words_mend.Goals as goal
 
 pub returns : goal.returns

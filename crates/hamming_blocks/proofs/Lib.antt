@@ -1,0 +1,13 @@
+pub mod OfPart
+pub mod Names
+pub mod Words
+pub mod Gives
+pub mod Phases
+pub mod Numbered
+pub mod Parts
+pub mod Few
+pub mod Repair
+pub mod Renewal
+pub mod Runs
+pub mod Scopes
+pub mod Elaboration

@@ -1,0 +1,5 @@
+pub mod Blocks
+pub mod BlockRuns
+pub mod OfPart
+pub mod Elaboration
+pub mod Names
