@@ -1,0 +1,5 @@
+pub mod Lists
+pub mod Derivation
+pub mod DistinctNames
+pub mod SpelledParts
+pub mod SpelledNames

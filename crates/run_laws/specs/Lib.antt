@@ -1,0 +1,3 @@
+pub mod TurnLimits
+pub mod HaltFree
+pub mod NeverHalted
