@@ -1,6 +1,7 @@
-"""Looks at what `agxx` weaves of the programs of cases/weaving, with the aspect files beside them: the text that it writes is the one that
-`.ci/checks/weaver.py` makes; woven they print, by each of the plans in plans.txt, what the source prints as compiled by g++; the text runs by
-`exec` as the program does by `run`; g++ accepts it without a warning, and it prints the same, with races and undefined behaviour looked for."""
+"""Looks at what `agxx` weaves of the programs of cases/weaving, with the aspect files beside them, and with the same files in which each of the two
+codes stands for the other: the text that it writes is the one that `.ci/checks/weaver.py` makes; woven they print, by each of the plans in
+plans.txt, what the source prints as compiled by g++; the text runs by `exec` as the program does by `run`; g++ accepts it without a warning, and it
+prints the same, with races and undefined behaviour looked for."""
 
 import concurrent.futures
 import functools
@@ -13,8 +14,10 @@ import program
 import weaver
 
 FOLDER = pathlib.Path("cases/weaving")
-HEADERS = "".join(f"#include <{header}>\n" for header in ("cstdint", "cstdlib", "iostream", "mutex", "thread"))
-COMMON = ["-std=c++20", "-pthread"]
+# What `new` gives is zero at first, which constructors of guarded classes count on, also where memory is used again.
+ZEROED = pathlib.Path("examples/protection/zeroed_new.cpp").read_text()
+HEADERS = "".join(f"#include <{header}>\n" for header in ("cstdint", "cstdlib", "iostream", "mutex", "thread")) + ZEROED
+COMMON = ["-std=c++20", "-pthread", "-fno-lifetime-dse"]
 # The source is compiled without warnings, since it may begin without includes and compare what it likes.
 SOURCE = [*COMMON, "-w"]
 # All warnings of the two groups are errors but one, which weaving causes: a function that returns in each branch of its last `if` leaves its
@@ -78,9 +81,9 @@ def run_fault(name, folder, wanted, plan):
     return None
 
 
-def text_fault(name, folder):
+def text_fault(name, aspects, folder):
     """How the woven text, which is kept in the folder, differs from the second weaver's, or nothing."""
-    source, aspects = ((FOLDER / f"{name}.{ending}").read_text() for ending in ("cc", "ah"))
+    source = (FOLDER / f"{name}.cc").read_text()
     for ending, text in (("cc", source), ("ah", aspects)):
         pathlib.Path(folder, f"{name}.{ending}").write_text(text)
     status, text, lines = program.run_words(["weave", f"{name}.cc", f"{name}.ah"], folder)
@@ -95,25 +98,38 @@ def text_fault(name, folder):
     return f"its text differs at {at}: {came}"
 
 
-def faults_of(name, compiler):
-    """What is wrong with a program."""
+def compiled_faults(text, wanted, compiler):
+    """How a woven text, as g++ compiles it, does otherwise than is wanted. A program without threads has no races."""
+    has_threads = b"std::thread " in text.read_bytes()
+    for options in (UNDEFINED if compiler.works(*UNDEFINED) else STRICT, RACES):
+        if compiler.works(*options) and (options is not RACES or has_threads):
+            came = compiler.run(text, tuple(options))
+            if came != wanted:
+                yield f"{options[-1]}: {came}, the source {wanted}"
+
+
+def faults_of(case, compiler):
+    """What is wrong with a program under an aspect file, which is told with what the source prints as it is compiled."""
+    name, aspects, wanted = case
     with tempfile.TemporaryDirectory() as folder:
-        found = text_fault(name, folder)
-        if compiler is None or found and found.startswith("weave"):
-            return [f"{name}: {found}"] if found else []
+        found = text_fault(name, aspects, folder)
+        if wanted is None or isinstance(wanted, str) or found and found.startswith("weave"):
+            return [f"{name}: {said}" for said in (found, wanted) if said]
         faults = [found] if found else []
-        wanted = compiler.run(FOLDER / f"{name}.cc", tuple(SOURCE))
-        if isinstance(wanted, str):
-            return [f"{name}: {wanted}"]
         faults += [found for found in (run_fault(name, folder, wanted, plan) for plan in plans()) if found]
-        text = pathlib.Path(folder, "woven.cc").rename(pathlib.Path(folder, f"{name}_woven.cc"))
-        has_threads = b"std::thread " in text.read_bytes()
-        for options in (UNDEFINED if compiler.works(*UNDEFINED) else STRICT, RACES):
-            if compiler.works(*options) and (options is not RACES or has_threads):
-                came = compiler.run(text, tuple(options))
-                if came != wanted:
-                    faults.append(f"{options[-1]}: {came}, the source {wanted}")
+        text = pathlib.Path(folder, "woven.cc").rename(pathlib.Path(folder, f"{name}_{'GOP_Hamming' in aspects}.cc"))
+        faults += compiled_faults(text, wanted, compiler)
     return [f"{name}: {fault}" for fault in faults]
+
+
+def cases(names, compiler, pool):
+    """Each program with its own aspect file and with the other code, and what it prints."""
+    wanted = [None] * len(names)
+    if compiler is not None:
+        wanted = pool.map(lambda name: compiler.run(FOLDER / f"{name}.cc", tuple(SOURCE)), names)
+    for name, told in zip(names, wanted):
+        own = (FOLDER / f"{name}.ah").read_text()
+        yield from ((name, aspects, told) for aspects in dict.fromkeys((own, weaver.exchanged(own))))
 
 
 def large_program(size):
@@ -129,10 +145,11 @@ def large_program(size):
     def text(fill):
         return front + "int main() { " + " ".join(prints + [f'std::cout << "{"a" * count}";' for count in fill]) + " return 0; }\n"
 
-    names = weaver.guarded_by(guards)
+    aspects = f"aspect Guard : public GOP_Copies {{ pointcut guarded() = {guards}; }};\n"
+    names = weaver.guarded_by(aspects)
     lacks = size - len(weaver.woven(text([0] * 300), names))
     full = [min(4096, max(0, lacks - 4096 * at)) for at in range(300)]
-    return text(full), f"aspect Guard : public GOP_Copies {{ pointcut guarded() = {guards}; }};\n", lacks
+    return text(full), aspects, lacks
 
 
 def large_fault(more):
@@ -159,9 +176,10 @@ def main():
             for options in (SOURCE, STRICT, UNDEFINED, RACES):
                 if not compiler.works(*options):
                     print(f"weaving: no program is compiled with {options[-1]}, which g++ lacks here")
-        faults = [fault for found in pool.map(lambda name: faults_of(name, compiler), names) for fault in found]
+        table = list(cases(names, compiler, pool))
+        faults = [fault for found in pool.map(lambda case: faults_of(case, compiler), table) for fault in found]
         faults += [found for found in pool.map(large_fault, (0, 1)) if found]
-    program.end("weaving", faults, len(names) + 2, "woven as wanted")
+    program.end("weaving", faults, len(table) + 2, "woven as wanted")
 
 
 main()
