@@ -6,6 +6,7 @@ prints the same, with races and undefined behaviour looked for."""
 import concurrent.futures
 import functools
 import pathlib
+import re
 import shutil
 import subprocess
 import tempfile
@@ -69,7 +70,8 @@ def run_fault(name, folder, wanted, plan):
     pathlib.Path(folder, "x.plan").write_bytes(plan)
     status, output, lines = program.run_words(["run", "x.plan", f"{name}.cc", f"{name}.ah"], folder)
     wrong = program.summary_fault(status, lines)
-    if wrong or lines[0] != f"ended {int(lines[0].split(' ')[1])}" or int(lines[0].split(" ")[1]) % 256 != wanted[0]:
+    ended = re.fullmatch(r"ended (-?\d+)", lines[0])
+    if wrong or not ended or int(ended[1]) % 256 != wanted[0]:
         return f"{wrong or lines[0]}, compiled {wanted[0]}, by {plan}"
     if output != wanted[1]:
         return f"prints {output!r}, compiled {wanted[1]!r}, by {plan}"
