@@ -1,19 +1,18 @@
 -- A part that can't be repaired any more: nobody comes to be engaged in it.
-use Rattle.std.proofs.Common.{◌≡◌, ℕ, zero, suc, ◌+◌, ◌<◌, ◌≤◌, ◌⊎◌, inl, inr, List, [], ◌∷◌, Option, Some, None, refl, sym, ap, subst, ◌∙◌, arith}
-use Rattle.std.specs.Prelude.{Bool, true, false, ◌≢◌}
+use Rattle.std.proofs.Common.{◌≡◌, ℕ, suc, ◌+◌, ◌<◌, inl, inr, List, Some, refl, sym, ap, subst, ◌∙◌, arith}
+use Rattle.std.specs.Prelude.{true, false, ◌≢◌}
 use Rattle.step_machine.specs.Frame.{Frame}
-use Rattle.step_machine.proofs.Same.{same-self}
 use Rattle.part_protocol.specs.Gate as gate
-use Rattle.part_protocol.specs.Gate.{holds, owed, engaged, is_held_by, InOrder, Step}
+use Rattle.part_protocol.specs.Gate.{owed, engaged, is_held_by, InOrder, Step}
 use Rattle.part_protocol.specs.Part.{Part, gate_of, enter_waits, enter_runs, enter_unlocks, enter_ends, Position, outside, entry, exit, Role, phase_of, standing_of}
 use Rattle.part_protocol.specs.Rules.{Rules, WordsFit}
 use Rattle.part_protocol.specs.BlockLaws.{BlockLaws}
 use Rattle.part_protocol.specs.Invariant.{Dies, BrokenAt, BrokenInv}
-use Rattle.part_protocol.specs.Moves.{is_holding, Quiets, stays, calls_enter, ends_enter, calls_leave, ends_leave, Grabs, grabs_enter, grabs_leave, Runs, Works, enter_goes, enter_adds, leave_goes, leave_takes, rest_goes, Frees, frees_enter, frees_leave, Move, quiet, grab, work, free, stores}
+use Rattle.part_protocol.specs.Moves.{is_holding, Quiets, stays, calls_enter, ends_enter, calls_leave, ends_leave, Grabs, grabs_enter, grabs_leave, Works, enter_goes, enter_adds, leave_goes, leave_takes, rest_goes, Frees, frees_enter, frees_leave, Move, quiet, grab, work, free, stores}
 use Rattle.part_protocol.proofs.Sums.{same-or-not}
 use Rattle.part_protocol.proofs.Order.{held-mine, lock-of, keeps-order}
 use Rattle.part_protocol.proofs.Sure.{halts-later, never-there}
-use Rattle.part_protocol.proofs.Keeps.{quiet-off, quiet-step, grab-holds, work-holds}
+use Rattle.part_protocol.proofs.Keeps.{quiet-off, quiet-step, work-holds}
 
 module _ (R : Rules) where
   -- what is asked of the part by whoever does not hold the lock

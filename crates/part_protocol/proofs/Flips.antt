@@ -1,6 +1,6 @@
 -- Flips while nobody is inside a part.
-use Rattle.std.proofs.Common.{◌≡◌, ℕ, zero, suc, ◌+◌, ◌<◌, ◌≤◌, ◌⊎◌, inl, inr, List, [], ◌∷◌, Option, Some, None, refl, sym, ap, subst, ◌∙◌, arith}
-use Rattle.std.specs.Prelude.{Bool, true, false, ◌^◌, ◌-◌, bit_xor, get_or, slice_get, slice_set}
+use Rattle.std.proofs.Common.{◌≡◌, ℕ, zero, suc, ◌<◌, inr, List, [], ◌∷◌, Option, Some, None, refl, sym, ap, subst, ◌∙◌, arith}
+use Rattle.std.specs.Prelude.{true, ◌^◌, ◌-◌, bit_xor, get_or, slice_get, slice_set}
 use Rattle.std.proofs.Math.Pow.{pow-lt}
 use Rattle.std.proofs.lemmas.Nat.{xor_lt}
 use Rattle.std.proofs.lemmas.Option.{same_Some}
@@ -9,11 +9,10 @@ use Rattle.cxx_arith.specs.Kinds.{width}
 use Rattle.step_machine.proofs.Same.{same-self}
 use Rattle.codec_laws.specs.Values.{Fit}
 use Rattle.fault_model.specs.Admissible.{Hit, goes_with}
-use Rattle.part_protocol.specs.Gate.{holds, owed, engaged, is_held_by, InOrder}
-use Rattle.part_protocol.specs.Part.{Part, gate_of, Position, outside, Role, phase_of, standing_of}
+use Rattle.part_protocol.specs.Gate.{holds, owed, engaged, is_held_by}
+use Rattle.part_protocol.specs.Part.{Part, Role, phase_of, standing_of}
 use Rattle.part_protocol.specs.Rules.{Rules, hit_word, hurt, IsBitOf, WordsFit, ValuesFit}
-use Rattle.part_protocol.specs.BlockLaws.{BlockLaws}
-use Rattle.part_protocol.specs.Invariant.{all_passed, all_inside, Rest, Open, Busy, PartInv, BrokenAt, BrokenInv}
+use Rattle.part_protocol.specs.Invariant.{all_passed, all_inside, Rest, Busy, PartInv, BrokenAt, BrokenInv}
 use Rattle.part_protocol.specs.Laws.{NobodyInside, AtRest}
 use Rattle.part_protocol.proofs.Sums.{total-zero}
 

@@ -1,19 +1,17 @@
 -- Each turn keeps what holds of a part.
-use Rattle.std.proofs.Common.{◌≡◌, ℕ, zero, suc, ◌+◌, ◌<◌, ◌≤◌, ◌⊎◌, inl, inr, List, [], ◌∷◌, Option, Some, None, refl, sym, ap, subst, ◌∙◌, arith}
-use Rattle.std.specs.Prelude.{Bool, true, false, ◌≢◌, ◌^◌, pred, take, slice_set}
+use Rattle.std.proofs.Common.{◌≡◌, ℕ, zero, suc, ◌<◌, ◌≤◌, ◌⊎◌, inl, inr, List, [], ◌∷◌, Option, Some, None, refl, sym, ap, subst, ◌∙◌, arith}
+use Rattle.std.specs.Prelude.{Bool, true, false, ◌^◌, pred, take, slice_set}
 use Rattle.step_machine.specs.Frame.{Frame}
 use Rattle.codec_laws.specs.Solo.{solo, goes}
 use Rattle.fault_model.specs.Admissible.{Hit}
 use Rattle.part_protocol.specs.Gate as gate
-use Rattle.part_protocol.specs.Gate.{holds, owed, Standing, engaged, is_held_by, total, InOrder, Step}
-use Rattle.part_protocol.specs.Part.{Part, gate_of, EnterStep, enter_waits, enter_runs, enter_unlocks, enter_ends, LeaveStep, leave_waits, leave_counts, leave_runs, leave_ends, Position, outside, entry, exit, Role, phase_of, standing_of}
-use Rattle.part_protocol.specs.Rules.{Rules, hurt, WordsFit, ValuesFit, members_of, Steady}
+use Rattle.part_protocol.specs.Gate.{owed, engaged, Step}
+use Rattle.part_protocol.specs.Part.{Part, gate_of, enter_waits, enter_runs, enter_unlocks, enter_ends, leave_waits, leave_counts, leave_runs, leave_ends, Position, outside, entry, exit, Role, phase_of, standing_of}
+use Rattle.part_protocol.specs.Rules.{Rules, WordsFit, ValuesFit, members_of}
 use Rattle.part_protocol.specs.BlockLaws.{BlockLaws}
-use Rattle.part_protocol.specs.Invariant.{all_passed, all_inside, Rest, Open, Surely, Busy, PartInv}
-use Rattle.part_protocol.specs.Moves.{Shift, up, down, is_holding, Quiets, stays, calls_enter, ends_enter, calls_leave, ends_leave, Grabs, grabs_enter, grabs_leave, Runs, Works, enter_goes, enter_adds, leave_goes, leave_takes, rest_goes, Frees, frees_enter, frees_leave, Move, quiet, grab, work, free, stores}
-use Rattle.part_protocol.specs.Laws.{hits_after, all_engaged}
-use Rattle.part_protocol.proofs.Sums.{same-or-not, total-changed, total-above}
-use Rattle.part_protocol.proofs.Order.{held-mine, lock-of, keeps-order}
+use Rattle.part_protocol.specs.Invariant.{Rest, Open, Surely, Busy, PartInv}
+use Rattle.part_protocol.specs.Moves.{is_holding, Quiets, stays, calls_enter, ends_enter, calls_leave, ends_leave, Grabs, grabs_enter, grabs_leave, Runs, Works, enter_goes, enter_adds, leave_goes, leave_takes, rest_goes, Frees, frees_enter, frees_leave, Move, quiet, grab, work, free, stores}
+use Rattle.part_protocol.specs.Laws.{hits_after}
 use Rattle.part_protocol.proofs.Sure.{Nearer, nearer, arrived}
 
 pub clear-after : (inside : ℕ) (hits : List Hit) → 0 < inside → hits_after inside hits ≡ []

@@ -1,7 +1,7 @@
 -- Each step keeps the order at a gate.
-use Rattle.std.proofs.Common.{◌≡◌, ℕ, zero, suc, ◌+◌, ◌<◌, ◌≤◌, ◌⊎◌, inl, inr, List, [], ◌∷◌, Option, Some, None, refl, sym, ap, subst, ◌∙◌, arith}
-use Rattle.std.specs.Prelude.{Bool, true, false, ◌≢◌, pred}
-use Rattle.step_machine.specs.Total.{same, upd}
+use Rattle.std.proofs.Common.{◌≡◌, ℕ, ◌+◌, ◌<◌, ◌≤◌, inl, inr, List, [], ◌∷◌, Option, Some, None, refl, sym, ap, subst, ◌∙◌, arith}
+use Rattle.std.specs.Prelude.{true, false, ◌≢◌}
+use Rattle.step_machine.specs.Total.{upd}
 use Rattle.step_machine.proofs.Same.{same-eq, same-self}
 use Rattle.part_protocol.specs.Gate.{Gate, open_gate, Phase, away, wants_in, comes_in, came_in, is_in, wants_out, goes_out, went_out, is_out, holds, mends, owed, Standing, nobody, engaged, is_held_by, total, InOrder, Quiet, stays, calls_in, ends_in, calls_out, ends_out, Grab, grabs_in, grabs_out, Work, enters, adds, leaves, takes, renews, Free, frees_in, frees_out, Step, quiet, grab, work, free, Event, gate_after, roles_after, AreSteps, IsAlone, GatesAreInOrder, MendingIsAlone}
 use Rattle.part_protocol.proofs.Sums.{same-not, same-or-not, upd-here, upd-there, total-changed, total-above, total-zero, each-zero}

@@ -1,13 +1,12 @@
 -- The laws of parts, put together.
-use Rattle.std.proofs.Common.{◌≡◌, ℕ, zero, suc, ◌+◌, ◌<◌, ◌≤◌, ◌⊎◌, inl, inr, List, Option, Some, None, refl, sym, ap, subst, ◌∙◌, arith}
+use Rattle.std.proofs.Common.{◌≡◌, ℕ, ◌<◌, List, Option, Some, None, refl, ap, subst, ◌∙◌, arith}
 use Rattle.std.specs.Prelude.{Bool, true, false}
-use Rattle.step_machine.specs.Frame.{Frame}
 use Rattle.step_machine.proofs.Same.{same-self}
-use Rattle.part_protocol.specs.Gate.{engaged, is_held_by, owed}
-use Rattle.part_protocol.specs.Part.{Part, gate_of, enter_waits, enter_runs, enter_unlocks, enter_ends, leave_waits, leave_counts, leave_runs, leave_ends, Position, outside, entry, exit, Role, phase_of, standing_of}
+use Rattle.part_protocol.specs.Gate.{engaged, is_held_by}
+use Rattle.part_protocol.specs.Part.{Part, gate_of, enter_waits, enter_runs, enter_unlocks, enter_ends, leave_waits, leave_counts, leave_runs, leave_ends, Position, outside, entry, exit, Role, standing_of}
 use Rattle.part_protocol.specs.Rules.{Rules, members_of}
 use Rattle.part_protocol.specs.BlockLaws.{BlockLaws}
-use Rattle.part_protocol.specs.Invariant.{Busy, PartInv, BrokenAt, BrokenInv}
+use Rattle.part_protocol.specs.Invariant.{Busy, PartInv, BrokenAt}
 use Rattle.part_protocol.specs.Moves.{is_holding}
 use Rattle.part_protocol.specs.Laws.{TurnsKeep, OthersKeep, PartsHold, BrokenPartsHold, PartsAreKept, PartsAreRight}
 use Rattle.part_protocol.proofs.Sums.{total-above, total-few}

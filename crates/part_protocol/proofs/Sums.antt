@@ -1,6 +1,6 @@
 -- Sums over the first threads, and functions of which one value is changed.
-use Rattle.std.proofs.Common.{◌≡◌, ℕ, zero, suc, ◌+◌, ◌*◌, ◌<◌, ◌≤◌, ◌⊎◌, inl, inr, refl, sym, ap, subst, ◌∙◌, arith}
-use Rattle.std.specs.Prelude.{Bool, true, false, ◌≢◌, if◌then◌else◌}
+use Rattle.std.proofs.Common.{◌≡◌, ℕ, zero, suc, ◌+◌, ◌*◌, ◌<◌, ◌≤◌, ◌⊎◌, inl, inr, refl, sym, ap, subst, arith}
+use Rattle.std.specs.Prelude.{Bool, true, false, ◌≢◌}
 use Rattle.step_machine.specs.Total.{same, upd}
 use Rattle.step_machine.proofs.Same.{same-eq, same-self}
 use Rattle.part_protocol.specs.Gate.{total}

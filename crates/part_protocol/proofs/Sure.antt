@@ -1,5 +1,5 @@
 -- What runs between lock and unlock goes on to where it will come.
-use Rattle.std.proofs.Common.{◌≡◌, ℕ, zero, suc, ◌+◌, ◌<◌, ◌≤◌, ◌⊎◌, inl, inr, List, refl, sym, ap, subst, ◌∙◌, arith}
+use Rattle.std.proofs.Common.{◌≡◌, ℕ, zero, suc, ◌<◌, ◌⊎◌, inl, inr, List, refl, sym, ap, subst, ◌∙◌, arith}
 use Rattle.std.specs.Prelude.{Bool, true, false}
 use Rattle.step_machine.specs.Frame.{Frame}
 use Rattle.codec_laws.specs.Solo.{SoloNext, goes, dies, strays, solo, solo_on}

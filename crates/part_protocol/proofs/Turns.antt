@@ -1,9 +1,9 @@
 -- A turn of one thread keeps what holds of a part, whatever the others are at.
-use Rattle.std.proofs.Common.{◌≡◌, ℕ, zero, suc, ◌+◌, ◌<◌, ◌≤◌, ◌⊎◌, inl, inr, List, [], ◌∷◌, Option, Some, None, refl, sym, ap, subst, ◌∙◌, arith}
+use Rattle.std.proofs.Common.{◌≡◌, ℕ, ◌+◌, ◌<◌, ◌≤◌, inl, inr, List, Some, None, refl, sym, ap, subst, ◌∙◌, arith}
 use Rattle.std.specs.Prelude.{Bool, true, false, ◌≢◌, ◌^◌, slice_set}
 use Rattle.fault_model.specs.Admissible.{Hit}
-use Rattle.part_protocol.specs.Gate.{holds, owed, engaged, is_held_by, total, InOrder}
-use Rattle.part_protocol.specs.Part.{Part, gate_of, Position, Role, phase_of, standing_of}
+use Rattle.part_protocol.specs.Gate.{owed, engaged, is_held_by, total, InOrder}
+use Rattle.part_protocol.specs.Part.{Part, gate_of, Role, phase_of, standing_of}
 use Rattle.part_protocol.specs.Rules.{Rules, WordsFit, ValuesFit}
 use Rattle.part_protocol.specs.BlockLaws.{BlockLaws}
 use Rattle.part_protocol.specs.Invariant.{all_passed, all_inside, Open, Busy, PartInv}

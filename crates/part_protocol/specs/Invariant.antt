@@ -1,9 +1,9 @@
 -- What holds of a part at each moment.
-use Rattle.std.specs.Prelude.{◌≡◌, ◌<◌, ◌≤◌, ◌+◌, ◌^◌, ◌⊎◌, ℕ, true, false, Bool, List, [], Option, None}
+use Rattle.std.specs.Prelude.{◌≡◌, ◌<◌, ◌≤◌, ◌+◌, ◌⊎◌, ℕ, true, false, Bool, List, [], None}
 use Rattle.step_machine.specs.Frame.{Frame}
 use Rattle.codec_laws.specs.Solo.{goes, dies, solo}
 use Rattle.fault_model.specs.Admissible.{Hit}
-use Rattle.part_protocol.specs.Gate.{engaged, total, InOrder}
+use Rattle.part_protocol.specs.Gate.{total, InOrder}
 use Rattle.part_protocol.specs.Part.{Part, gate_of, enter_waits, enter_runs, enter_unlocks, leave_counts, leave_runs, Position, outside, entry, exit, Role, standing_of}
 use Rattle.part_protocol.specs.Rules.{Rules, hurt, Together, WordsFit, ValuesFit, members_of, Steady}
 

@@ -1,5 +1,5 @@
 -- The protocol: what turns and flips do to a part, whatever the program, with any number of threads.
-use Rattle.std.specs.Prelude.{◌≡◌, ◌≢◌, ◌≤◌, ◌<◌, ◌*◌, ◌^◌, ◌⊎◌, ℕ, zero, suc, true, false, Bool, List, [], ◌∷◌, Some, None}
+use Rattle.std.specs.Prelude.{◌≡◌, ◌≢◌, ◌≤◌, ◌<◌, ◌*◌, ◌^◌, ◌⊎◌, ℕ, zero, suc, true, Bool, List, [], ◌∷◌, None}
 use Rattle.step_machine.specs.Frame.{Frame}
 use Rattle.codec_laws.specs.Solo.{goes, dies}
 use Rattle.fault_model.specs.Admissible.{Hit, goes_with}

@@ -1,9 +1,8 @@
 -- In a protected program there are not too many of anything, and it violates no rule.
-use Rattle.std.proofs.Common.{◌≡◌, refl, sym, ap, ◌∙◌, ℕ, ◌≤◌, arith, Bool, true, if◌then◌else◌, List, [], ◌∷◌, ◌++◌, map, Some, None}
+use Rattle.std.proofs.Common.{◌≡◌, refl, sym, ap, ◌∙◌, ℕ, arith, if◌then◌else◌, List, [], ◌∷◌, map, None}
 use Rattle.std.specs.List.{filter}
 use Rattle.agxx_base.specs.declared.fault.Refusal.{Refusal}
 use Rattle.agxx_base.specs.declared.kind.Mode.TheVariants as mode
-use Rattle.agxx_base.specs.declared.place.Place.{Place}
 use Rattle.agxx_base.specs.declared.rule.Rule.{Rule}
 use Rattle.agxx_base.specs.declared.rule.Rule.TheVariants as rule
 use Rattle.agxx_base.specs.Refusals.{rank, least}
@@ -12,7 +11,7 @@ use Rattle.cxx_distinct.specs.NamesIn.{names_in_program}
 use Rattle.cxx_distinct.specs.Sights.{first_sights}
 use Rattle.cxx_types.specs.Counts.{most}
 use Rattle.cxx_types.specs.Programs as programs
-use Rattle.cxx_types.specs.Violations.{violations_of, refusal_of}
+use Rattle.cxx_types.specs.Violations.{violations_of}
 use Rattle.cxx_rules.specs.Forms as form
 use Rattle.cxx_rules.specs.ProgramForms as p
 use Rattle.cxx_rules.specs.Rules as rules

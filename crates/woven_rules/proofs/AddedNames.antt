@@ -1,6 +1,6 @@
 -- The names that stand in what a part adds to a class are those of its members, of what is generated for it, and the
 -- two of mutexes.
-use Rattle.std.proofs.Common.{◌≡◌, refl, sym, ap, ◌∙◌, subst, ℕ, zero, suc, ◌+◌, ◌<◌, ◌≤◌, arith, Bool, true, false, if◌then◌else◌, List, [], ◌∷◌, ◌++◌, map, length, Option, Some, None, codes}
+use Rattle.std.proofs.Common.{◌≡◌, sym, subst, ℕ, suc, ◌+◌, ◌<◌, ◌≤◌, arith, Bool, true, false, if◌then◌else◌, List, [], ◌∷◌, ◌++◌, map, length, Option, Some, None, codes}
 use Rattle.std.specs.List.{range_with_len}
 use Rattle.agxx_base.specs.Names.{number_of}
 use Rattle.agxx_base.specs.declared.ids.NameId.{NameId}
@@ -12,11 +12,10 @@ use Rattle.cxx_tree.specs.declared.operator.UnOp.TheVariants as un
 use Rattle.cxx_tree.specs.declared.program.Access.{Access}
 use Rattle.cxx_tree.specs.declared.program.Access.TheVariants as access
 use Rattle.cxx_tree.specs.declared.program.Member.{Member}
-use Rattle.cxx_tree.specs.declared.program.TypeName.{TypeName}
 use Rattle.cxx_tree.specs.declared.program.TypeName.TheVariants as type_name
 use Rattle.cxx_tree.specs.Limits.{Every}
 use Rattle.cxx_tree.specs.ExprTree.{ExprTree}
-use Rattle.cxx_tree.specs.StmtTree.{StmtTree, listed_stmts}
+use Rattle.cxx_tree.specs.StmtTree.{listed_stmts}
 use Rattle.cxx_tree.specs.ProgramTree as tree
 use Rattle.cxx_tree.specs.ProgramTree.{ItemTree}
 use Rattle.cxx_distinct.specs.NamesIn as n
@@ -34,7 +33,7 @@ use Rattle.hamming_gen.specs.declared.words.PartWords.{PartWords}
 use Rattle.entry_count.specs.PartCode as code
 use Rattle.entry_count.specs.PartCode.{enter_body, leave_body, take_lock, free_lock, is_zero, counts, when_zero, repairs, renews}
 use Rattle.protect.specs.Protected as z
-use Rattle.woven_rules.proofs.Seen.{OwnNames, own-front, own-back}
+use Rattle.woven_rules.proofs.Seen.{OwnNames}
 use Rattle.woven_rules.proofs.Lineages.{every-by}
 use Rattle.woven_rules.proofs.Tags as t
 use Rattle.woven_rules.proofs.HammingBodies.{locals_of, fault_locals_of}

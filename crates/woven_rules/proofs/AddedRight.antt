@@ -15,7 +15,7 @@ use Rattle.cxx_tree.specs.declared.program.TypeName.TheVariants as type_name
 use Rattle.cxx_tree.specs.Limits.{Every}
 use Rattle.cxx_tree.specs.StmtTree.{StmtTree, listed_stmts}
 use Rattle.cxx_tree.specs.ProgramTree as tree
-use Rattle.cxx_tree.specs.ProgramTree.{FunctionTree, ItemTree, ClassTree}
+use Rattle.cxx_tree.specs.ProgramTree.{ItemTree, ClassTree}
 use Rattle.cxx_names.specs.declared.declarations.ClassInfo.{ClassInfo}
 use Rattle.cxx_names.specs.Declarations as d
 use Rattle.cxx_names.specs.LookUp as look

@@ -1,5 +1,5 @@
 -- The bodies that repair and renew the words of a part violate no rule, whatever code it has.
-use Rattle.std.proofs.Common.{◌≡◌, ◌≢◌, refl, sym, ap, ◌∙◌, subst, ℕ, suc, ◌+◌, ◌<◌, ◌^◌, arith, true, List, [], ◌∷◌, ◌++◌, map, length, Some, None, is_some, codes, decimal}
+use Rattle.std.proofs.Common.{◌≡◌, ◌≢◌, refl, sym, subst, ℕ, suc, ◌+◌, ◌<◌, ◌^◌, arith, true, List, [], ◌∷◌, ◌++◌, map, length, None, is_some}
 use Rattle.std.specs.List.{range_with_len}
 use Rattle.agxx_base.specs.declared.ids.NameId.{NameId}
 use Rattle.cxx_tree.specs.declared.node.Placed.{Placed}
@@ -11,7 +11,7 @@ use Rattle.cxx_names.specs.declared.types.Thing.{Thing}
 use Rattle.cxx_names.specs.Tables.{named}
 use Rattle.cxx_distinct.specs.NamesIn as n
 use Rattle.cxx_rules.specs.StmtForms as f
-use Rattle.cxx_make.specs.Generated.{text_of, numbered}
+use Rattle.cxx_make.specs.Generated.{text_of}
 use Rattle.cxx_make.specs.Made as made
 use Rattle.guards.specs.declared.guard.GuardKind.{GuardKind}
 use Rattle.guards.specs.declared.guard.GuardKind.TheVariants as guard
@@ -31,7 +31,7 @@ use Rattle.woven_rules.proofs.Tags as t
 use Rattle.woven_rules.proofs.Tags.{IsKnown}
 use Rattle.woven_rules.proofs.Lineages.{every-by}
 use Rattle.woven_rules.proofs.Members.{members}
-use Rattle.woven_rules.proofs.Keys.{Key, key, part, extra_members, extra_keys, check_keys, few-checks}
+use Rattle.woven_rules.proofs.Keys.{key, part, extra_members, extra_keys, check_keys, few-checks}
 use Rattle.woven_rules.proofs.World.{Setting, Own, IsFound, Facts, guard_in}
 use Rattle.woven_rules.proofs.Inherits.{of-members, part-known}
 use Rattle.woven_rules.proofs.OwnItems.{IsNumberMember, own-found, extras-found}

@@ -6,9 +6,9 @@ use Rattle.cxx_tree.specs.declared.node.Placed.{Placed}
 use Rattle.cxx_tree.specs.Limits.{Every}
 use Rattle.cxx_tree.specs.ExprTree.{ExprTree}
 use Rattle.cxx_tree.specs.StmtTree as st
-use Rattle.cxx_tree.specs.StmtTree.{LocalTree, SimpleTree, StartTree, ThreadTree, StmtTree, StmtTrees, BlockTree, IfTree, ElseTree}
+use Rattle.cxx_tree.specs.StmtTree.{LocalTree, StartTree, ThreadTree, StmtTree, StmtTrees, BlockTree, IfTree, ElseTree}
 use Rattle.cxx_tree.specs.ProgramTree as tree
-use Rattle.cxx_tree.specs.ProgramTree.{FunctionTree, InitTree, CtorTree, DtorTree, ItemTree, ClassTree, DeclTree}
+use Rattle.cxx_tree.specs.ProgramTree.{FunctionTree, ItemTree}
 use Rattle.cxx_names.specs.declared.declarations.ClassInfo.{ClassInfo}
 use Rattle.cxx_names.specs.LookUp.{free_signature}
 use Rattle.cxx_types.specs.declared.limits.Counts.{Counts}

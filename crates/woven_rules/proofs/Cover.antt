@@ -1,5 +1,5 @@
 -- The distinct names of a protected program are few: those of its source, those of locals, and those of its parts.
-use Rattle.std.proofs.Common.{◌≡◌, ◌≢◌, inl, inr, refl, sym, ap, ◌∙◌, subst, ℕ, zero, suc, ◌+◌, ◌*◌, ◌<◌, ◌≤◌, arith, Bool, true, false, List, [], ◌∷◌, ◌++◌, map, reverse, length, Option, Some, None, is_some, codes, nat_eq, length-append}
+use Rattle.std.proofs.Common.{◌≡◌, ◌≢◌, inl, inr, refl, sym, ap, ◌∙◌, subst, ℕ, zero, suc, ◌+◌, ◌*◌, ◌<◌, ◌≤◌, arith, Bool, true, false, List, [], ◌∷◌, ◌++◌, map, length, Some, is_some, codes, nat_eq, length-append}
 use Rattle.std.specs.List.{range_with_len}
 use Rattle.std.proofs.lemmas.Option.{same_Some}
 use Rattle.std.proofs.lemmas.Bool.{eqb-true}
@@ -11,7 +11,7 @@ use Rattle.cxx_tree.specs.declared.node.Placed.{Placed}
 use Rattle.cxx_tree.specs.declared.program.Member.{Member}
 use Rattle.cxx_tree.specs.Limits.{Every}
 use Rattle.cxx_tree.specs.ProgramTree as tree
-use Rattle.cxx_tree.specs.ProgramTree.{ItemTree, ClassTree, DeclTree}
+use Rattle.cxx_tree.specs.ProgramTree.{ClassTree, DeclTree}
 use Rattle.cxx_names.specs.declared.declarations.ClassInfo.{ClassInfo}
 use Rattle.cxx_names.specs.declared.declarations.Declared.{Declared}
 use Rattle.cxx_names.specs.Declarations as d
@@ -40,17 +40,17 @@ use Rattle.woven_rules.proofs.Tags as t
 use Rattle.woven_rules.proofs.Keys.{Key, key, name_of, keys_of, extra_keys, first_keys, second_keys, check_keys, six_keys, few-checks, every-both}
 use Rattle.woven_rules.proofs.Counting.{AreFew, few-front, few-back, not-limit}
 use Rattle.woven_rules.proofs.Found as found
-use Rattle.woven_rules.proofs.World.{Setting, Own, source_of, woven_of, weave, parts_of, added_to, ClassFacts, guard_in, site, IsFound, Facts}
+use Rattle.woven_rules.proofs.World.{Setting, source_of, woven_of, weave, parts_of, added_to, ClassFacts, guard_in, site, IsFound, Facts}
 use Rattle.woven_rules.proofs.Inherits.{of-members}
 use Rattle.woven_rules.proofs.OwnItems.{shown, added-is}
 use Rattle.woven_rules.proofs.Procedures.{no-members, every-reverse}
 use Rattle.woven_rules.proofs.Tables.{same-number}
 use Rattle.woven_rules.proofs.AddedRight.{none-added}
-use Rattle.woven_rules.proofs.PartLocals.{group, locals}
+use Rattle.woven_rules.proofs.PartLocals.{group}
 use Rattle.woven_rules.proofs.Sights.{Elem, elem-front, elem-back, sights-few, distinct_numbers, names-elem, distinct-few}
 use Rattle.woven_rules.proofs.WovenNames.{names-both, items-both, items-in}
 use Rattle.woven_rules.proofs.AddedNames.{LocalsIn, added-in}
-use Rattle.woven_rules.proofs.Lists.{back-of, front-of, length-mapped, length-range}
+use Rattle.woven_rules.proofs.Lists.{back-of, length-mapped, length-range}
 
 -- ---- lists
 

@@ -1,5 +1,5 @@
 -- A part adds few items to a class, and few locals stand in its functions.
-use Rattle.std.proofs.Common.{◌≡◌, refl, sym, ap, ◌∙◌, subst, ℕ, zero, suc, ◌+◌, ◌<◌, ◌≤◌, arith, Bool, true, false, List, [], ◌∷◌, ◌++◌, map, length, Option, Some, None, length-append}
+use Rattle.std.proofs.Common.{◌≡◌, refl, ap, ◌∙◌, ℕ, suc, ◌+◌, ◌<◌, ◌≤◌, arith, List, [], ◌∷◌, ◌++◌, map, length, Option, length-append}
 use Rattle.std.specs.List.{range_with_len}
 use Rattle.agxx_base.specs.declared.ids.NameId.{NameId}
 use Rattle.agxx_base.specs.declared.kind.Mode.TheVariants as mode
@@ -9,9 +9,7 @@ use Rattle.cxx_tree.specs.declared.program.Access.{Access}
 use Rattle.cxx_tree.specs.declared.program.Access.TheVariants as access
 use Rattle.cxx_tree.specs.declared.program.Member.{Member}
 use Rattle.cxx_tree.specs.declared.program.TypeName.TheVariants as type_name
-use Rattle.cxx_tree.specs.Limits.{Every}
-use Rattle.cxx_tree.specs.StmtTree as st
-use Rattle.cxx_tree.specs.StmtTree.{StmtTree, listed_stmts}
+use Rattle.cxx_tree.specs.StmtTree.{StmtTree}
 use Rattle.cxx_tree.specs.ProgramTree as tree
 use Rattle.cxx_tree.specs.ProgramTree.{ItemTree}
 use Rattle.cxx_names.specs.declared.declarations.ClassInfo.{ClassInfo}
@@ -29,11 +27,9 @@ use Rattle.codec.specs.Copies as copies
 use Rattle.hamming_gen.specs.Positions.{check_words, next_position}
 use Rattle.hamming_gen.specs.HammingNames as hamming
 use Rattle.hamming_gen.specs.HammingTrees as h
-use Rattle.hamming_gen.specs.declared.words.MemberWord.{MemberWord}
-use Rattle.hamming_gen.specs.declared.words.CheckWord.{CheckWord}
 use Rattle.hamming_gen.specs.declared.words.PartWords.{PartWords}
 use Rattle.entry_count.specs.PartCode as code
-use Rattle.entry_count.specs.PartCode.{enter_body, leave_body, take_lock, free_lock, is_zero, counts, when_zero, repairs, renews}
+use Rattle.entry_count.specs.PartCode.{enter_body, leave_body, take_lock, free_lock, counts, when_zero, repairs, renews}
 use Rattle.protect.specs.Protected as z
 use Rattle.woven_rules.proofs.Counting.{AreFew}
 use Rattle.woven_rules.proofs.FewForms.{ShortStmt, few-both, counted-few, few-body}

@@ -1,5 +1,5 @@
 -- Where totals are low and texts are short, there are not too many of anything among the forms of statements.
-use Rattle.std.proofs.Common.{◌≡◌, ◌≢◌, refl, sym, ap, ◌∙◌, subst, ℕ, zero, suc, ◌+◌, ◌<◌, ◌≤◌, arith, Bool, true, false, not, nat_eq, List, [], ◌∷◌, ◌++◌, map, length, Option, Some, None}
+use Rattle.std.proofs.Common.{◌≡◌, refl, ap, ℕ, ◌+◌, ◌<◌, ◌≤◌, arith, Bool, true, false, not, List, [], ◌∷◌, ◌++◌, length, Option, Some, None}
 use Rattle.std.specs.Prelude.{nat_lt}
 use Rattle.agxx_base.specs.declared.ids.ClassId.{ClassId}
 use Rattle.agxx_base.specs.declared.place.Place.{Place}
@@ -16,7 +16,7 @@ use Rattle.cxx_tree.specs.Limits.{Every}
 use Rattle.cxx_tree.specs.ExprTree as e
 use Rattle.cxx_tree.specs.ExprTree.{ExprTree, ExprTrees, CallTree}
 use Rattle.cxx_tree.specs.StmtTree as st
-use Rattle.cxx_tree.specs.StmtTree.{InitialTree, LocalTree, SimpleTree, PrintedTree, StartTree, ThreadTree, StmtTree, StmtTrees, BlockTree, IfTree, ElseTree, listed_stmts}
+use Rattle.cxx_tree.specs.StmtTree.{InitialTree, LocalTree, SimpleTree, PrintedTree, StartTree, ThreadTree, StmtTree, StmtTrees, BlockTree, IfTree, ElseTree}
 use Rattle.cxx_names.specs.LookUp.{free_signature}
 use Rattle.cxx_types.specs.Counts.{most_bytes}
 use Rattle.cxx_types.specs.declared.limits.Counts.{Counts}
@@ -26,7 +26,7 @@ use Rattle.cxx_rules.specs.Types as typed
 use Rattle.cxx_rules.specs.Forms as form
 use Rattle.cxx_rules.specs.Forms.{Form}
 use Rattle.cxx_rules.specs.StmtForms as f
-use Rattle.cxx_rules.specs.TooMany.{limit, too_many_at}
+use Rattle.cxx_rules.specs.TooMany.{limit}
 use Rattle.cxx_rules.specs.Unless.{unless}
 use Rattle.woven_rules.proofs.Tables.{other-number}
 use Rattle.woven_rules.proofs.Counting.{IsFew, AreFew, few-front, few-back, IsLow}

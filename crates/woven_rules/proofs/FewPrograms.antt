@@ -1,8 +1,7 @@
 -- In a protected program there are not too many of anything but, maybe, of names.
-use Rattle.std.proofs.Common.{◌≡◌, ◌≢◌, refl, sym, ap, ◌∙◌, subst, ℕ, suc, ◌<◌, ◌≤◌, arith, Bool, true, false, List, [], ◌∷◌, ◌++◌, map, Option, Some, None, is_some}
+use Rattle.std.proofs.Common.{◌≡◌, ◌≢◌, refl, sym, subst, ℕ, suc, ◌<◌, ◌≤◌, arith, Bool, true, false, List, [], ◌∷◌, ◌++◌, map, Option, Some, None, is_some}
 use Rattle.agxx_base.specs.declared.ids.NameId.{NameId}
 use Rattle.agxx_base.specs.declared.kind.Mode.TheVariants as mode
-use Rattle.agxx_base.specs.declared.place.Place.{Place}
 use Rattle.cxx_tree.specs.declared.node.Placed.{Placed}
 use Rattle.cxx_tree.specs.declared.program.Const.{Const}
 use Rattle.cxx_tree.specs.declared.program.TypeName.{TypeName}
@@ -22,7 +21,6 @@ use Rattle.cxx_rules.specs.Types as typed
 use Rattle.cxx_rules.specs.Forms as form
 use Rattle.cxx_rules.specs.StmtForms as f
 use Rattle.cxx_rules.specs.ProgramForms as p
-use Rattle.cxx_rules.specs.TooMany.{limit}
 use Rattle.guards.specs.Guarding.{kind_of}
 use Rattle.protect.specs.GuardedParts as g
 use Rattle.protect.specs.Protected as z
@@ -31,9 +29,8 @@ use Rattle.woven_rules.proofs.FewForms.{few-both, counted-few, few-arguments, fe
 use Rattle.woven_rules.proofs.FewWrapped.{IsBegun, params-few, function-few, ctor-few, dtor-few}
 use Rattle.woven_rules.proofs.FewAdded.{added-few}
 use Rattle.woven_rules.proofs.Members.{members}
-use Rattle.woven_rules.proofs.WrappedClasses.{seen_after}
 use Rattle.woven_rules.proofs.Found as found
-use Rattle.woven_rules.proofs.World.{Setting, Own, source_of, woven_of, weave, parts_of, added_to, ClassFacts, guard_in, site, IsFound, Facts}
+use Rattle.woven_rules.proofs.World.{Setting, source_of, woven_of, weave, parts_of, added_to, ClassFacts, guard_in, site, IsFound, Facts}
 use Rattle.woven_rules.proofs.Inherits.{before_info, after_info, wider}
 use Rattle.woven_rules.proofs.OwnItems.{shown, added-is}
 use Rattle.woven_rules.proofs.AddedRight.{none-added}

@@ -1,5 +1,5 @@
 -- Wrapped bodies have at most a local more for each returned value, and as many `return`s.
-use Rattle.std.proofs.Common.{◌≡◌, ◌≢◌, refl, sym, ap, ◌∙◌, subst, ℕ, zero, suc, ◌+◌, ◌<◌, ◌≤◌, arith, Bool, true, false, not, nat_eq, if◌then◌else◌, List, [], ◌∷◌, ◌++◌, map, reverse, length, Option, Some, None}
+use Rattle.std.proofs.Common.{◌≡◌, refl, sym, subst, ℕ, suc, ◌+◌, ◌≤◌, arith, Bool, true, false, if◌then◌else◌, List, [], ◌∷◌, ◌++◌, reverse, Option, Some, None}
 use Rattle.agxx_base.specs.declared.ids.NameId.{NameId}
 use Rattle.agxx_base.specs.declared.place.Place.{Place}
 use Rattle.agxx_base.specs.declared.kind.Mode.TheVariants as mode
@@ -11,15 +11,13 @@ use Rattle.cxx_tree.specs.ExprTree as e
 use Rattle.cxx_tree.specs.ExprTree.{ExprTree, ExprTrees}
 use Rattle.cxx_tree.specs.StmtTree as st
 use Rattle.cxx_tree.specs.StmtTree.{StmtTree, StmtTrees, BlockTree, IfTree, ElseTree, listed_stmts}
-use Rattle.cxx_tree.specs.ProgramTree as tree
-use Rattle.cxx_tree.specs.ProgramTree.{FunctionTree, InitTree, CtorTree, DtorTree, ItemTree}
+use Rattle.cxx_tree.specs.ProgramTree.{FunctionTree, InitTree, CtorTree, DtorTree}
 use Rattle.cxx_normal.specs.Entry.{ends_with_return}
 use Rattle.cxx_names.specs.declared.declarations.ClassInfo.{ClassInfo}
 use Rattle.cxx_names.specs.declared.declarations.MemberInfo.{MemberInfo}
 use Rattle.cxx_names.specs.Tables.{named, with_name}
 use Rattle.cxx_types.specs.Counts.{most}
 use Rattle.cxx_types.specs.Classes as classes
-use Rattle.cxx_types.specs.declared.classes.ItemsSeen.{ItemsSeen}
 use Rattle.cxx_rules.specs.Sites.{Site}
 use Rattle.cxx_rules.specs.Forms as form
 use Rattle.cxx_rules.specs.StmtForms as f
@@ -27,8 +25,8 @@ use Rattle.cxx_rules.specs.ProgramForms as p
 use Rattle.entry_count.specs.PartCode.{enter, leave}
 use Rattle.entry_count.specs.Wrapping as wrap
 use Rattle.protect.specs.Protected as z
-use Rattle.woven_rules.proofs.Counting.{IsFew, AreFew, few-front, few-back, not-limit, IsLow, stmts-low, block-values, body-low}
-use Rattle.woven_rules.proofs.FewForms.{ShortStmt, ShortStmts, ShortBlock, ShortIf, ShortElse, few-both, counted-few, few-expr, few-arguments, few-body, short-body}
+use Rattle.woven_rules.proofs.Counting.{AreFew, few-front, few-back, block-values, body-low}
+use Rattle.woven_rules.proofs.FewForms.{ShortStmt, ShortStmts, ShortBlock, ShortIf, ShortElse, few-both, few-expr, few-arguments, few-body, short-body}
 use Rattle.cxx_make.specs.Made as made
 use Rattle.woven_rules.proofs.WrappedRight.{value_at, calls, entering-is, leaving-is, returning-is, end-is}
 

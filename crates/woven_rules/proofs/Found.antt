@@ -7,7 +7,7 @@ use Rattle.agxx_base.specs.declared.ids.ClassId.{ClassId}
 use Rattle.agxx_base.specs.declared.ids.NameId.{NameId}
 use Rattle.cxx_tree.specs.declared.node.Placed.{Placed}
 use Rattle.cxx_tree.specs.ProgramTree as tree
-use Rattle.cxx_tree.specs.ProgramTree.{ItemTree, ClassTree, DeclTree}
+use Rattle.cxx_tree.specs.ProgramTree.{ClassTree, DeclTree}
 use Rattle.cxx_names.specs.declared.declarations.ClassInfo.{ClassInfo}
 use Rattle.cxx_names.specs.declared.declarations.Declared.{Declared}
 use Rattle.cxx_names.specs.Declarations as d

@@ -1,13 +1,13 @@
 -- The items that a part adds to a class, by the tags and the names that theirs are made of.
-use Rattle.std.proofs.Common.{◌≡◌, ◌≢◌, refl, sym, ap, ◌∙◌, subst, ℕ, zero, suc, ◌+◌, ◌^◌, ◌<◌, ◌≤◌, arith, Bool, true, false, if◌then◌else◌, List, [], ◌∷◌, ◌++◌, map, length, Option, Some, None, codes, decimal}
+use Rattle.std.proofs.Common.{◌≡◌, ◌≢◌, refl, sym, ap, ◌∙◌, subst, ℕ, zero, suc, ◌+◌, ◌^◌, ◌<◌, ◌≤◌, arith, Bool, true, false, if◌then◌else◌, List, [], ◌∷◌, ◌++◌, map, length, Some, None, codes}
 use Rattle.std.specs.List.{range_with_len}
 use Rattle.agxx_base.specs.declared.ids.NameId.{NameId}
-use Rattle.agxx_base.specs.Names.{IsDistinct, is_known}
+use Rattle.agxx_base.specs.Names.{IsDistinct}
 use Rattle.cxx_tree.specs.declared.node.Placed.{Placed}
 use Rattle.cxx_tree.specs.declared.program.Member.{Member}
 use Rattle.cxx_tree.specs.Limits.{Every}
 use Rattle.cxx_tree.specs.ProgramTree as tree
-use Rattle.cxx_tree.specs.ProgramTree.{FunctionTree, ItemTree}
+use Rattle.cxx_tree.specs.ProgramTree.{ItemTree}
 use Rattle.cxx_names.specs.declared.declarations.ClassInfo.{ClassInfo}
 use Rattle.cxx_names.specs.Tables.{named}
 use Rattle.cxx_make.specs.Generated.{text_of}

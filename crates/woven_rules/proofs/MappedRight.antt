@@ -5,7 +5,7 @@ use Rattle.agxx_base.specs.declared.ids.NameId.{NameId}
 use Rattle.agxx_base.specs.declared.place.Place.{Place}
 use Rattle.cxx_tree.specs.ExprTree.{ExprTree}
 use Rattle.cxx_tree.specs.StmtTree as s
-use Rattle.cxx_tree.specs.StmtTree.{LocalTree, SimpleTree, ThreadTree, StartTree, StmtTree, StmtTrees, BlockTree, IfTree, ElseTree, listed_stmts}
+use Rattle.cxx_tree.specs.StmtTree.{LocalTree, StartTree, StmtTree, StmtTrees, BlockTree, IfTree, ElseTree, listed_stmts}
 use Rattle.cxx_names.specs.declared.declarations.Declared.{Declared}
 use Rattle.cxx_names.specs.declared.types.Thing.{Thing}
 use Rattle.cxx_names.specs.declared.types.Thing.TheVariants as thing

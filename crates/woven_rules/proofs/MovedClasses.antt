@@ -28,7 +28,6 @@ use Rattle.cxx_types.specs.declared.classes.ItemsSeen.{ItemsSeen}
 use Rattle.cxx_types.specs.Classes as c
 use Rattle.cxx_rules.specs.Sites.{Site}
 use Rattle.cxx_rules.specs.Forms as form
-use Rattle.cxx_rules.specs.Forms.{Form}
 use Rattle.cxx_rules.specs.ProgramForms as p
 use Rattle.cxx_rules.specs.Unless.{unless}
 use Rattle.cxx_rules.specs.BaseNotDeclaredBefore.{base_not_declared_before_at}

@@ -16,7 +16,6 @@ use Rattle.cxx_tree.specs.declared.program.TypeName.TheVariants as type_name
 use Rattle.cxx_tree.specs.ExprTree as e
 use Rattle.cxx_tree.specs.ExprTree.{ExprTree}
 use Rattle.cxx_tree.specs.StmtTree as s
-use Rattle.cxx_tree.specs.StmtTree.{StmtTree}
 use Rattle.cxx_tree.specs.Places.{expr_node}
 use Rattle.cxx_names.specs.declared.declarations.Declared.{Declared}
 use Rattle.cxx_names.specs.declared.types.ValueType.{ValueType}

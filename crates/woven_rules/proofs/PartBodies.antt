@@ -34,7 +34,7 @@ use Rattle.cxx_rules.specs.Sites as at
 use Rattle.cxx_rules.specs.Sites.{Site}
 use Rattle.cxx_rules.specs.Forms as form
 use Rattle.cxx_rules.specs.StmtForms as f
-use Rattle.cxx_make.specs.Generated.{text_of, numbered}
+use Rattle.cxx_make.specs.Generated.{text_of}
 use Rattle.cxx_make.specs.Generated as made_name
 use Rattle.cxx_make.specs.Made as made
 use Rattle.codec.specs.Part.{unsigned_of}

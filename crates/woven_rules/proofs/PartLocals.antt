@@ -9,7 +9,6 @@ use Rattle.hamming_gen.specs.Positions.{check_words, next_position}
 use Rattle.hamming_gen.specs.HammingNames as hamming
 use Rattle.hamming_gen.specs.declared.words.MemberWord.{MemberWord}
 use Rattle.hamming_gen.specs.declared.words.CheckWord.{CheckWord}
-use Rattle.hamming_gen.specs.declared.words.PartWords.{PartWords}
 use Rattle.woven_rules.proofs.HammingBodies.{locals_of}
 
 one-up : (i : ℕ) → suc i ≡ i + 1

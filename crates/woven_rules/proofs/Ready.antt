@@ -31,7 +31,7 @@ use Rattle.woven_rules.proofs.Right.{Rights, front}
 use Rattle.woven_rules.proofs.Seen.{OwnNames, own-front, own-back}
 use Rattle.woven_rules.proofs.Wider.{IsWider}
 use Rattle.woven_rules.proofs.Declares as declares
-use Rattle.woven_rules.proofs.Declares.{IsForeign, IsWiderSoFar, is-wider, decls-wider, empty-wider}
+use Rattle.woven_rules.proofs.Declares.{IsForeign, is-wider, decls-wider, empty-wider}
 use Rattle.woven_rules.proofs.Lineages.{decls-built, empty-built}
 use Rattle.woven_rules.proofs.Members.{members}
 use Rattle.woven_rules.proofs.Tags.{tagged-foreign}

@@ -1,5 +1,5 @@
 -- There are no more distinct names than numbers that cover them.
-use Rattle.std.proofs.Common.{◌≡◌, ◌≢◌, ◌⊎◌, inl, inr, refl, sym, ap, ◌∙◌, subst, ℕ, zero, suc, ◌+◌, ◌<◌, ◌≤◌, arith, Bool, true, false, List, [], ◌∷◌, ◌++◌, map, length, Option, Some, None, is_some, nat_eq, if◌then◌else◌, cond, slice_get, length-append}
+use Rattle.std.proofs.Common.{◌≡◌, ◌⊎◌, inl, inr, refl, sym, ap, ◌∙◌, subst, ℕ, zero, suc, ◌+◌, ◌≤◌, arith, Bool, true, false, List, [], ◌∷◌, ◌++◌, map, length, Option, Some, None, is_some, nat_eq, if◌then◌else◌, cond, slice_get, length-append}
 use Rattle.std.proofs.lemmas.Option.{none-some}
 use Rattle.std.proofs.lemmas.Bool.{eqb-true}
 use Rattle.agxx_base.specs.declared.ids.NameId.{NameId}
@@ -8,7 +8,7 @@ use Rattle.cxx_tree.specs.declared.node.Placed.{Placed}
 use Rattle.cxx_tree.specs.Limits.{Every}
 use Rattle.cxx_names.specs.Tables.{named, with_name, thing_at, thing_by}
 use Rattle.cxx_distinct.specs.Sights.{seen, first_sights}
-use Rattle.woven_rules.proofs.Tables.{named-new, named-other, named-still}
+use Rattle.woven_rules.proofs.Tables.{named-new, named-still}
 
 -- ---- lists
 

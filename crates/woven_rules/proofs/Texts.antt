@@ -15,7 +15,7 @@ use Rattle.cxx_tree.specs.declared.node.Placed.{Placed}
 use Rattle.cxx_tree.specs.declared.program.Member.{Member}
 use Rattle.cxx_tree.specs.Limits.{Every}
 use Rattle.cxx_tree.specs.ProgramTree as p
-use Rattle.cxx_tree.specs.ProgramTree.{ItemTree, ClassTree, DeclTree, ProgramTree}
+use Rattle.cxx_tree.specs.ProgramTree.{ClassTree, DeclTree, ProgramTree}
 use Rattle.cxx_distinct.specs.NamesIn as n
 use Rattle.cxx_make.specs.Generated.{text_of, all_interned}
 use Rattle.guards.specs.declared.guard.Guard.{Guard}

@@ -1,7 +1,6 @@
 -- The names of the locals with which check words are repaired and renewed: none is that of another, of a class or of a
 -- word of a part.
-use Rattle.std.proofs.Common.{◌≡◌, ◌≢◌, refl, sym, ap, ◌∙◌, ℕ, zero, suc, ◌+◌, ◌<◌, ◌^◌, arith, true, List, [], ◌∷◌, ◌++◌, map, get_or, drop, None, codes, decimal}
-use Rattle.std.specs.List.{range_with_len}
+use Rattle.std.proofs.Common.{◌≡◌, ◌≢◌, refl, sym, ap, ◌∙◌, ℕ, zero, suc, ◌+◌, ◌<◌, ◌^◌, arith, true, List, [], ◌∷◌, ◌++◌, get_or, drop, None, codes, decimal}
 use Rattle.std.proofs.lemmas.Fmt.{decimal_injective}
 use Rattle.agxx_base.specs.Names.{is_known}
 use Rattle.agxx_base.specs.declared.ids.NameId.{NameId}

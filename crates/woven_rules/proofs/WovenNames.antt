@@ -1,10 +1,9 @@
 -- The names that stand in wrapped bodies are those of the bodies, of functions of parts, and of locals for returned
 -- values.
-use Rattle.std.proofs.Common.{◌≡◌, refl, sym, ap, subst, ℕ, zero, suc, ◌+◌, ◌<◌, ◌≤◌, arith, Bool, true, false, if◌then◌else◌, List, [], ◌∷◌, ◌++◌, map, reverse, Option, Some, None}
+use Rattle.std.proofs.Common.{sym, subst, ℕ, ◌+◌, ◌<◌, ◌≤◌, arith, Bool, true, false, if◌then◌else◌, List, [], ◌∷◌, ◌++◌, map, reverse, Option, Some, None}
 use Rattle.agxx_base.specs.declared.ids.NameId.{NameId}
 use Rattle.agxx_base.specs.declared.place.Place.{Place}
 use Rattle.cxx_tree.specs.declared.node.Placed.{Placed}
-use Rattle.cxx_tree.specs.declared.program.Param.{Param}
 use Rattle.cxx_tree.specs.declared.program.TypeName.{TypeName}
 use Rattle.cxx_tree.specs.declared.program.TypeName.TheVariants as type_name
 use Rattle.cxx_tree.specs.Limits.{Every}

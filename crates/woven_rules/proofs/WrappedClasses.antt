@@ -7,7 +7,7 @@ use Rattle.cxx_tree.specs.declared.program.TypeName.TheVariants as type_name
 use Rattle.cxx_tree.specs.Limits.{Every}
 use Rattle.cxx_tree.specs.Fits.{IsPlainType}
 use Rattle.cxx_tree.specs.ProgramTree as tree
-use Rattle.cxx_tree.specs.ProgramTree.{FunctionTree, CtorTree, DtorTree, ItemTree, ClassTree}
+use Rattle.cxx_tree.specs.ProgramTree.{FunctionTree, CtorTree, DtorTree, ItemTree}
 use Rattle.cxx_names.specs.declared.declarations.ClassInfo.{ClassInfo}
 use Rattle.cxx_names.specs.declared.declarations.Declared.{Declared}
 use Rattle.cxx_names.specs.declared.types.Thing.{Thing}

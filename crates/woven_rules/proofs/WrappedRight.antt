@@ -35,7 +35,6 @@ use Rattle.cxx_rules.specs.Sites as at
 use Rattle.cxx_rules.specs.Sites.{Site}
 use Rattle.cxx_rules.specs.Types as typed
 use Rattle.cxx_rules.specs.Forms as form
-use Rattle.cxx_rules.specs.Forms.{Form}
 use Rattle.cxx_rules.specs.StmtForms as f
 use Rattle.cxx_rules.specs.Unless.{unless}
 use Rattle.cxx_rules.specs.UnknownName as n1
