@@ -1,0 +1,17 @@
+pub mod CoreCodes
+pub mod Names
+pub mod ProtectedCore
+pub mod EntryFrames
+pub mod GhostFrames
+pub mod Ghost
+pub mod Bodies
+pub mod Deeds
+pub mod Roles
+pub mod Outcomes
+pub mod SourceCode
+pub mod Invariant
+pub mod ItemKinds
+pub mod Located
+pub mod Lemmas
+pub mod Statements
+pub mod Example
