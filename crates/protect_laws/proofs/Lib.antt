@@ -18,3 +18,4 @@ pub mod Labelled
 pub mod Initialised
 pub mod NormalClass
 pub mod NormalDecls
+pub mod Example

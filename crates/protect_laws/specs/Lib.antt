@@ -4,3 +4,4 @@ pub mod Guarded
 pub mod Bodies
 pub mod Kept
 pub mod Normal
+pub mod Example

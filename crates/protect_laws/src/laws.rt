@@ -1,6 +1,7 @@
 //! Laws on definitions alone. Each function does nothing: it carries its law.
 
 ghost use Rattle.protect_laws.specs.Bodies.{BodiesAreGuarded};
+ghost use Rattle.protect_laws.specs.Example.{CellHasItsWords};
 ghost use Rattle.protect_laws.specs.Exits.{ExitsComeAfterLeaves};
 ghost use Rattle.protect_laws.specs.Guarded.{MembersAreAdded, PartsAreGuarded, WordsAreAdded};
 ghost use Rattle.protect_laws.specs.Kept.{ProtectedFitsWoven};
@@ -48,4 +49,9 @@ pub fn protected_fits_woven()
 /// A protected program is in normal form, where its source is.
 pub fn protected_is_normal()
     ensures { ProtectedIsNormal }
+{}
+
+/// A class with one member has these words under copies, and these under check words.
+pub fn example_has_its_words()
+    ensures { CellHasItsWords }
 {}
