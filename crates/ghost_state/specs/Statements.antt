@@ -1,5 +1,5 @@
 -- What is to be proved of runs: planned runs of the protected program follow the source, and what is promised of them.
-use Rattle.std.specs.Prelude.{◌≡◌, ◌≢◌, ◌≤◌, ◌⊎◌, ℕ, zero, suc, ◌+◌, Bool, true, false, List, [], ◌∷◌, length, Option, Some, None, option_map, codes}
+use Rattle.std.specs.Prelude.{◌≡◌, ◌≢◌, ◌≤◌, ◌⊎◌, ℕ, zero, suc, ◌+◌, Bool, true, false, List, [], ◌∷◌, length, Option, Some, None, option_map, slice_get, codes}
 use Rattle.std.specs.List.{Contains}
 use Rattle.agxx_base.specs.declared.ids.ClassId.{ClassId}
 use Rattle.agxx_base.specs.declared.ids.ObjectId.{ObjectId}
@@ -7,7 +7,7 @@ use Rattle.flip_plan.specs.declared.flip.PlannedFlip.{PlannedFlip}
 use Rattle.cxx_core.specs.CoreProgram.{CoreProgram}
 use Rattle.step_machine.specs.declared.outcome.State.TheVariants as state
 use Rattle.step_machine.specs.declared.outcome.StepKind.TheVariants as kind
-use Rattle.step_machine.specs.Setting.{begins}
+use Rattle.step_machine.specs.Setting.{begins, is_of}
 use Rattle.step_machine.specs.Frame.{Frame}
 use Rattle.step_machine.specs.Total.{Total, next_of}
 use Rattle.fault_model.specs.declared.verdict.Verdict.TheVariants.{Admissible}
@@ -18,7 +18,7 @@ use Rattle.fault_model.specs.Admissible.{is_admissible, hit_of}
 use Rattle.fault_model.specs.Progress.{Progress, with_flip, with_turn, planned_of}
 use Rattle.fault_model.specs.Exact.{TouchesPart, IsExact}
 use Rattle.fault_model.specs.Cost.{Code, Guards, cost}
-use Rattle.part_protocol.specs.Rules.{hit_word, hurt, IsBitOf}
+use Rattle.part_protocol.specs.Rules.{hit_word, hurt, IsBitOf, Together}
 use Rattle.ghost_state.specs.CoreCodes.{CoreCode, Codes}
 use Rattle.ghost_state.specs.Names.{Naming}
 use Rattle.ghost_state.specs.ProtectedCore.{repair_number, renew_number, part_words}
@@ -120,10 +120,10 @@ module _ (texts : List (List ℕ)) (names : Naming) (g : Codes) (p : CoreProgram
   abbrev pub cost_guards : Guards
   cost_guards class = option_map adds_of (g class)
 
-  -- a thread has a frame that mends the part of a class of an object
-  pub record Mends (m : Total) (t o : ℕ) (class : ClassId) : Type 0 where
+  -- the frame of a thread at this place mends the part of a class of an object
+  pub record MendsAt (m : Total) (t place o : ℕ) (class : ClassId) : Type 0 where
     pub frame : Frame
-    pub there : Contains (m.frames t) frame
+    pub there : slice_get (m.frames t) place ≡ Some frame
     pub this : frame.this ≡ Some o
     pub function : (frame.function ≡ Some (repair_number g p class)) ⊎ (frame.function ≡ Some (renew_number g p class))
 
@@ -133,15 +133,16 @@ module _ (texts : List (List ℕ)) (names : Naming) (g : Codes) (p : CoreProgram
       (t o : ℕ) (class : ClassId) (code : CoreCode) → g class ≡ Some code
       → m.holder (part_lock texts names g p o class) ≡ Some t → is_inserted_by (answer m t) ≡ true
 
-  pub record IsAloneWith (m : Total) (t o : ℕ) (class : ClassId) (code : CoreCode) : Type 0 where
+  pub record IsAloneWith (m : Total) (t place o : ℕ) (class : ClassId) (code : CoreCode) : Type 0 where
     pub has_lock : m.holder (part_lock texts names g p o class) ≡ Some t
     pub none_counted : counter_of code m o class ≡ Some 0
     pub none_engaged : is_engaged m o class ≡ false
-    pub no_other : (u : ℕ) → Mends m u o class → u ≡ t
+    pub no_other : (u other : ℕ) → MendsAt m u other o class → (u ≡ t) × (other ≡ place)
 
   abbrev pub MendersAreAlone : Total → Type 0
   MendersAreAlone m =
-      (t o : ℕ) (class : ClassId) (code : CoreCode) → g class ≡ Some code → Mends m t o class → IsAloneWith m t o class code
+      (t place o : ℕ) (class : ClassId) (code : CoreCode) → g class ≡ Some code → MendsAt m t place o class
+      → IsAloneWith m t place o class code
 
   pub record Kept (a : Progress) (s : Total) : Type 0 where
     -- output, and each turn of the source is a step there
@@ -159,6 +160,9 @@ module _ (texts : List (List ℕ)) (names : Naming) (g : Codes) (p : CoreProgram
         → words_of_part code a.total o class
         ≡ hurt (base_words (W texts names g p) class) (a.hits o class)
         ((rules texts names g p code o own class).encoded (source_values s o class))
+    -- at most one flip of a single part, and at most one at each bit place of another
+    pub together : (o : ℕ) (class own : ClassId) (code : CoreCode) → g class ≡ Some code → a.total.class o ≡ Some own
+        → is_inside a.total o class ≡ false → Together (rules texts names g p code o own class) (a.hits o class)
     -- cost
     pub cheap : (t : ℕ) → a.in_a_row t ≤ cost (S texts names g p) cost_guards []
     pub locked : LockedIsInserted a.total
@@ -180,14 +184,16 @@ module _ (texts : List (List ℕ)) (names : Naming) (g : Codes) (p : CoreProgram
   LocksAreInserted =
       IsProtectable texts names g p → (plan : FaultPlan) (n : ℕ) → LockedIsInserted (planned_of plan (woven_start texts names g p) n).total
 
-  -- whether no line of a plan falls on a counter
-  abbrev pub SparesCounters : List PlanLine → Type 0
-  SparesCounters [] = Unit {0}
-  SparesCounters (line ∷ lines) =
-      ((class : ClassId) (code : CoreCode) → g class ≡ Some code
-      → (flip_of line).word ≢ base_words (W texts names g p) class + part_size code class) × SparesCounters lines
+  -- no line of a plan is of a counter of an object that lives at one of the first moments of its run
+  abbrev pub SparesCounters : FaultPlan → ℕ → Type 0
+  SparesCounters plan n =
+      (i : ℕ) → i ≤ n → (line : PlanLine) → Contains plan.lines line → (own class : ClassId) (code : CoreCode)
+      → g class ≡ Some code
+      → (planned_of plan (woven_start texts names g p) i).total.class (flip_of line).object.0 ≡ Some own
+      → is_of (W texts names g p) (Some own) (Some class) ≡ true
+      → (flip_of line).word ≢ base_words (W texts names g p) class + part_size code class
 
   abbrev pub MendersStayAlone : Type 0
   MendersStayAlone =
-      IsProtectable texts names g p → (plan : FaultPlan) (n : ℕ) → SparesCounters plan.lines
+      IsProtectable texts names g p → (plan : FaultPlan) (n : ℕ) → SparesCounters plan n
       → MendersAreAlone (planned_of plan (woven_start texts names g p) n).total
