@@ -119,7 +119,7 @@ def faults_of(case, compiler):
             return [f"{name}: {said}" for said in (found, wanted) if said]
         faults = [found] if found else []
         faults += [found for found in (run_fault(name, folder, wanted, plan) for plan in plans()) if found]
-        text = pathlib.Path(folder, "woven.cc").rename(pathlib.Path(folder, f"{name}_{'GOP_Hamming' in aspects}.cc"))
+        text = pathlib.Path(folder, "woven.cc").rename(pathlib.Path(folder, f"{name}_{abs(hash(aspects))}.cc"))
         faults += compiled_faults(text, wanted, compiler)
     return [f"{name}: {fault}" for fault in faults]
 
