@@ -10,7 +10,7 @@ COPIES = $(foreach word,$(filter-out /%,$(ARGS)),$(if $(wildcard $(word)),--data
 
 # Proves and builds the program. Where it was never built, all that it stands on is proved first, JOBS crates at a time.
 all:
-	@test -e $(PROGRAM) || echo "Proving everything from nothing takes some 125 processor minutes: about 40 minutes on four processors (with JOBS=4)." >&2
+	@test -e $(PROGRAM) || echo "Proving everything from nothing takes some 150 processor minutes: about 50 minutes on four processors (with JOBS=4)." >&2
 	@test -e $(PROGRAM) || { cd crates/agxx_main && rt all check $(if $(JOBS),--jobs $(JOBS)) >&2; }
 	@cd crates/agxx_main && rt run -- exec data/a.cc >/dev/null
 

@@ -1,8 +1,9 @@
-//! Laws of what names mean: which class derives from which, and which names are distinct. The crate has definitions and
-//! laws alone.
+//! Laws of what names mean: which class derives from which, and which names are distinct. The crate has definitions
+//! and laws alone.
 //!
-//! Read `Derivation` (a class derives from itself and from what its base derives from), then `DistinctNames` (names, each
-//! once, in order of first sight) and `SpelledNames` (the names that are counted are those of a program's spelling).
+//! Read `Derivation` (a class derives from itself and from what its base derives from), then `DistinctNames` (names,
+//! each once, in order of first sight) and `SpelledNames` (the names that are counted are those of a program's
+//! spelling).
 #![tactic(auto)]
 
 mod laws;

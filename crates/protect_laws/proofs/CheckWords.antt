@@ -1,6 +1,8 @@
 -- The statements that repair and renew check words keep the limits of woven programs: with 120 members at most, no
 -- expression has more operators than 400.
 use Rattle.std.proofs.Common.{◌≡◌, ◌≤◌, ℕ, zero, suc, ◌+◌, ◌*◌, refl, ap, ◌∙◌, arith, Bool, true, false, if◌then◌else◌, List, [], ◌∷◌, map, length, Option, Some, None, length-append}
+use Rattle.std.proofs.lemmas.List.FromFn.{length-range_with_len}
+use Rattle.std.proofs.lemmas.List.{length-map}
 use Rattle.std.specs.List.{range_with_len}
 use Rattle.agxx_base.specs.declared.ids.NameId.{NameId}
 use Rattle.agxx_base.specs.declared.place.Place.{Place}
@@ -34,17 +36,9 @@ few-more k r (suc more) = by (is_enough k r) (few-more k (suc r) more)
     by true rest = omega arith
     by false rest = omega (arith, rest)
 
-few-checks : (k : ℕ) → check_words k ≤ k + 1
+pub few-checks : (k : ℕ) → check_words k ≤ k + 1
 unfolding check_words
 few-checks k = omega (arith, few-more k 0 (k + 1))
-
-length-mapped : {A B : Type 0} (of : A → B) (xs : List A) → length (map of xs) ≡ length xs
-length-mapped of [] = refl
-length-mapped of (x ∷ xs) = ap suc (length-mapped of xs)
-
-length-range : (j n : ℕ) → length (range_with_len j n) ≡ n
-length-range j zero = refl
-length-range j (suc n) = ap suc (length-range (j + 1) n)
 
 length-words : (names : List (List ℕ)) (i position : ℕ) (ms : List Member)
     → length (member_words names i position ms) ≡ length ms
@@ -179,12 +173,12 @@ module _ (at : Place) where
           arith,
           few,
           length-append (h.check_names words.checks) (map (λ (m : MemberWord). m.word) words.members),
-          length-mapped (λ (c : CheckWord). c.name) words.checks,
-          length-mapped (λ (m : MemberWord). m.word) words.members,
+          length-map words.checks (λ (c : CheckWord). c.name),
+          length-map words.members (λ (m : MemberWord). m.word),
         )
 
     sums-few : length (h.sum_names words.checks) ≤ 400
-    sums-few = omega (arith, fewer, length-mapped (λ (c : CheckWord). c.sum) words.checks)
+    sums-few = omega (arith, fewer, length-map words.checks (λ (c : CheckWord). c.sum))
 
     faults-few : length (h.fault_names words.checks words.members) ≤ 241
     faults-few =
@@ -192,8 +186,8 @@ module _ (at : Place) where
           arith,
           few,
           length-append (map (λ (m : MemberWord). m.fault) words.members) (map (λ (c : CheckWord). c.fault) words.checks),
-          length-mapped (λ (c : CheckWord). c.fault) words.checks,
-          length-mapped (λ (m : MemberWord). m.fault) words.members,
+          length-map words.checks (λ (c : CheckWord). c.fault),
+          length-map words.members (λ (m : MemberWord). m.fault),
         )
 
     -- ---- sums
@@ -328,8 +322,8 @@ module _ (at : Place) where
 module _ (names : List (List ℕ)) (part : Part) (few : length part.members ≤ 120) where
   checks-are : length (part_words names part).checks ≡ check_words (length part.members)
   checks-are =
-      length-mapped (check_word names part.class.item) (range_with_len 0 (check_words (length part.members)))
-      ∙ length-range 0 (check_words (length part.members))
+      length-map (range_with_len 0 (check_words (length part.members))) (check_word names part.class.item)
+      ∙ length-range_with_len 0 (check_words (length part.members))
 
   words-are : length (part_words names part).members ≡ length part.members
   words-are = length-words names 1 3 part.members

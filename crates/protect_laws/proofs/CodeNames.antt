@@ -1,5 +1,6 @@
 -- What is known of each code's names and members: their texts begin as generated ones do, and none is a counter's.
-use Rattle.std.proofs.Common.{◌≡◌, ℕ, suc, refl, sym, ap, subst, ◌∙◌, true, false, ◌&&◌, not, List, [], ◌∷◌, ◌++◌, map, length, codes}
+use Rattle.std.proofs.Common.{◌≡◌, ℕ, refl, sym, ap, subst, ◌∙◌, true, false, ◌&&◌, not, List, [], ◌∷◌, ◌++◌, map, length, codes}
+use Rattle.std.proofs.lemmas.List.{length-map}
 use Rattle.std.specs.List.{range_with_len}
 use Rattle.std.specs.Str.{bytes_eq}
 use Rattle.agxx_base.specs.Names.{is_known, number_of}
@@ -100,14 +101,10 @@ module _ (names : List (List ℕ)) where
   check-words at class [] = tt
   check-words at class (j ∷ js) = ((refl, refl), check-words at class js)
 
-  length-mapped : {A B : Type 0} (of : A → B) (xs : List A) → length (map of xs) ≡ length xs
-  length-mapped of [] = refl
-  length-mapped of (x ∷ xs) = ap suc (length-mapped of xs)
-
   length-texts : (part : Part) → length (member_texts names part) ≡ length part.members
   length-texts part =
-      length-mapped (text_of names) (map (λ (m : Member). m.name.item) part.members)
-      ∙ length-mapped (λ (m : Member). m.name.item) part.members
+      length-map (map (λ (m : Member). m.name.item) part.members) (text_of names)
+      ∙ length-map part.members (λ (m : Member). m.name.item)
 
   -- the members that a code adds are words, and have the names of its texts
   pub code-members : (kind : GuardKind) (part : Part)

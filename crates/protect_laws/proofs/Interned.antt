@@ -65,20 +65,20 @@ known-through names [] text known = known
 known-through names (more ∷ texts) text known =
     known-through (interned names more) texts text (known-still names more text known)
 
-all-known : (names : List (List ℕ)) (texts : List (List ℕ)) → AreKnown (all_interned names texts) texts
+pub all-known : (names : List (List ℕ)) (texts : List (List ℕ)) → AreKnown (all_interned names texts) texts
 all-known names [] = tt
 all-known names (text ∷ texts) =
     (known-through (interned names text) texts text (known-new names text), all-known (interned names text) texts)
 
 -- ---- texts stay
 
-kept-through : (names : List (List ℕ)) (texts : List (List ℕ)) (id : ℕ) (old : List ℕ) → slice_get names id ≡ Some old
+pub kept-through : (names : List (List ℕ)) (texts : List (List ℕ)) (id : ℕ) (old : List ℕ) → slice_get names id ≡ Some old
     → slice_get (all_interned names texts) id ≡ Some old
 kept-through names [] id old at = at
 kept-through names (text ∷ texts) id old at =
     kept-through (interned names text) texts id old (interned-keeps names text old id at)
 
-there : (xs : List (List ℕ)) (k : ℕ) → k < length xs → (x : List ℕ) × (slice_get xs k ≡ Some x)
+pub there : (xs : List (List ℕ)) (k : ℕ) → k < length xs → (x : List ℕ) × (slice_get xs k ≡ Some x)
 there [] k below = absurd (omega arith)
 there (x ∷ xs) zero below = (x, refl)
 there (x ∷ xs) (suc k) below = there xs k (omega arith)

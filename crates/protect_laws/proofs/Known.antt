@@ -31,7 +31,7 @@ every-by P Q one [] all = tt
 every-by P Q one (x ∷ xs) all = (one x all.0, every-by P Q one xs all.1)
 
 module _ (names : List (List ℕ)) where
-  named-text : (text : List ℕ) → is_known names text ≡ true → text_of names (named names text) ≡ text
+  pub named-text : (text : List ℕ) → is_known names text ≡ true → text_of names (named names text) ≡ text
   named-text text known = ap (λ x. unwrap_or x []) (at-number names text known)
 
   -- the name of a text that begins so
@@ -44,7 +44,7 @@ module _ (names : List (List ℕ)) where
   one-on : (i k : ℕ) → suc i + k ≡ i + suc k
   one-on i k = omega arith
 
-  value-known : (i n : ℕ) → AreKnown names (value_texts i n) → (k : ℕ) → k < n
+  pub value-known : (i n : ℕ) → AreKnown names (value_texts i n) → (k : ℕ) → k < n
       → is_known names (codes "__gop_r_" ++ decimal (i + k)) ≡ true
   value-known i zero all k below = absurd (omega arith)
   value-known i (suc n) all zero below =

@@ -34,14 +34,14 @@ use Rattle.entry_count.specs.PartCode as code
 use Rattle.entry_count.specs.PartCode.{enter_body, leave_body, take_lock, free_lock, is_zero, counts, when_zero, repairs, renews}
 use Rattle.protect.specs.Protected as z
 use Rattle.woven_rules.proofs.Seen.{OwnNames}
-use Rattle.woven_rules.proofs.Lineages.{every-by}
 use Rattle.woven_rules.proofs.Tags as t
 use Rattle.woven_rules.proofs.HammingBodies.{locals_of, fault_locals_of}
 use Rattle.woven_rules.proofs.PartLocals.{locals, locals-are}
 use Rattle.woven_rules.proofs.Keys.{Key, key, name_of, Keyed, part, extra_members, six_items, items_of, extra_keys, first_keys, second_keys, check_keys, six_keys, keys_of, extras-keyed, every-both}
 use Rattle.woven_rules.proofs.OwnItems.{IsNumMember, extra-numbers}
 use Rattle.woven_rules.proofs.WovenNames.{AllIn, names-both, in-both, items-both}
-use Rattle.woven_rules.proofs.Lists.{back-of, every-map, front-of, of-mapped}
+use Rattle.protect_laws.proofs.Exits.{front-of, back-of}
+use Rattle.protect_laws.proofs.Known.{every-mapped, every-unmapped, every-by}
 
 module _ (Q : ℕ → Type 0) (at : Place) where
   abbrev In : NameId → Type 0
@@ -137,18 +137,18 @@ module _ (Q : ℕ → Type 0) (at : Place) where
     names-in : Every In (h.word_names cs ms)
     names-in =
         every-both In (h.check_names cs) (map (λ (m : MemberWord). m.word) ms)
-        (every-map In (λ (c : CheckWord). c.name) cs
+        (every-mapped In (λ (c : CheckWord). c.name) cs
         (every-by (λ (c : CheckWord). In c.name × (In c.sum × In c.fault)) (λ (c : CheckWord). In c.name)
         (λ c is. is.0) cs checks))
-        (every-map In (λ (m : MemberWord). m.word) ms words-in)
+        (every-mapped In (λ (m : MemberWord). m.word) ms words-in)
 
     fault-names-in : Every In (h.fault_names cs ms)
     fault-names-in =
         every-both In (map (λ (m : MemberWord). m.fault) ms) (map (λ (c : CheckWord). c.fault) cs)
-        (every-map In (λ (m : MemberWord). m.fault) ms
+        (every-mapped In (λ (m : MemberWord). m.fault) ms
         (every-by (λ (m : MemberWord). In m.member.name.item × (In m.word × In m.fault))
         (λ (m : MemberWord). In m.fault) (λ m is. is.1.1) ms members))
-        (every-map In (λ (c : CheckWord). c.fault) cs
+        (every-mapped In (λ (c : CheckWord). c.fault) cs
         (every-by (λ (c : CheckWord). In c.name × (In c.sum × In c.fault)) (λ (c : CheckWord). In c.fault)
         (λ c is. is.1.1) cs checks))
 
@@ -181,7 +181,7 @@ module _ (Q : ℕ → Type 0) (at : Place) where
               _ (joined-in op.BitXor (made.variable at words.parity) (h.word_names cs ms) (parity, tt) names-in) (
                 uneven,
                 names-both Q (n.names_in_expr (h.all_joined at op.BitOr (h.sum_names cs))) _
-                    (all-joined-in op.BitOr (h.sum_names cs) (every-map In (λ (c : CheckWord). c.sum) cs sums-in)) tt,
+                    (all-joined-in op.BitOr (h.sum_names cs) (every-mapped In (λ (c : CheckWord). c.sum) cs sums-in)) tt,
               ),
         ))
 
@@ -321,9 +321,9 @@ module _ (Q : ℕ → Type 0) (names : List (List ℕ)) where
         members-in =
             every-three (λ (w : MemberWord). Known w.member.name.item) (λ (w : MemberWord). Known w.word)
             (λ (w : MemberWord). Known w.fault) words.members (members-known 1 3 ms own)
-            (of-mapped Known (λ (w : MemberWord). w.word) words.members
+            (every-unmapped Known (λ (w : MemberWord). w.word) words.members
             (front-of Known (map (λ (w : MemberWord). w.word) words.members) _ local))
-            (of-mapped Known (λ (w : MemberWord). w.fault) words.members
+            (every-unmapped Known (λ (w : MemberWord). w.fault) words.members
             (front-of Known (map (λ (w : MemberWord). w.fault) words.members) _ totals.1.1))
 
         checks-in : Every (λ (w : CheckWord). Known w.name × (Known w.sum × Known w.fault)) words.checks
@@ -331,9 +331,9 @@ module _ (Q : ℕ → Type 0) (names : List (List ℕ)) where
             every-three (λ (w : CheckWord). Known w.name) (λ (w : CheckWord). Known w.sum)
             (λ (w : CheckWord). Known w.fault) words.checks
             (checks-known js (front-of KeyIn (check_keys names class js) (key t.parity class.item ∷ []) keys))
-            (of-mapped Known (λ (w : CheckWord). w.sum) words.checks
+            (every-unmapped Known (λ (w : CheckWord). w.sum) words.checks
             (front-of Known (map (λ (w : CheckWord). w.sum) words.checks) _ later))
-            (of-mapped Known (λ (w : CheckWord). w.fault) words.checks
+            (every-unmapped Known (λ (w : CheckWord). w.fault) words.checks
             (front-of Known (map (λ (w : CheckWord). w.fault) words.checks) _ last))
 
         parity-in : Known words.parity

@@ -39,7 +39,7 @@ use Rattle.protect.specs.Protected as z
 use Rattle.woven_rules.proofs.Wider.{class-same, lineage-same}
 use Rattle.woven_rules.proofs.Right.{Right, Rights, joined}
 use Rattle.woven_rules.proofs.Standing.{Stand}
-use Rattle.woven_rules.proofs.Lineages.{every-by, base_lineage}
+use Rattle.woven_rules.proofs.Lineages.{base_lineage}
 use Rattle.woven_rules.proofs.Members.{members}
 use Rattle.woven_rules.proofs.Keys.{Key, name_of, IsKnownKey, IsAbsent, Keyed, part, extra_members, keys_of, items_of, six_items, all-keyed, every-both}
 use Rattle.woven_rules.proofs.Found.{inside_class, no-class}
@@ -49,6 +49,7 @@ use Rattle.woven_rules.proofs.OwnItems.{opened, shown, added-is, stands, IsNowhe
 use Rattle.woven_rules.proofs.PartBodies.{enter-right, leave-right}
 use Rattle.woven_rules.proofs.CodeBodies.{repair-right, renew-right}
 use Rattle.woven_rules.proofs.WrappedClasses.{seen_after}
+use Rattle.protect_laws.proofs.Known.{every-by}
 
 -- the types of members that are added
 abbrev pub IsAddedType : TypeName → Type 0

@@ -39,16 +39,16 @@ use Rattle.guard_rules.specs.BoolMember.{bool_member}
 use Rattle.guard_rules.specs.Violations.{refusals, violations_of_guards}
 use Rattle.protect.specs.GuardedParts as g
 use Rattle.protect.specs.GeneratedNames.{returns_of, most_returns, most_in_decls, generated_texts, with_generated}
+use Rattle.protect_laws.proofs.Exits.{front-of, back-of}
+use Rattle.protect_laws.proofs.Known.{every-by}
 use Rattle.protect_laws.specs.Guarded.{class_in}
 use Rattle.woven_rules.specs.WovenRules.{HasPlainType, IsReady}
 use Rattle.woven_rules.proofs.Right.{Rights, Clear, clear-each}
-use Rattle.woven_rules.proofs.Lineages.{every-by}
 use Rattle.woven_rules.proofs.Members.{members}
 use Rattle.woven_rules.proofs.Counting.{AreFew, returns-above}
 use Rattle.woven_rules.proofs.Texts.{owns, still-within, PartsKnown, class-known, all-parts-known}
 use Rattle.woven_rules.proofs.Found as found
 use Rattle.woven_rules.proofs.World.{Setting, Own, weave, ClassFacts}
-use Rattle.woven_rules.proofs.Lists.{back-of, front-of}
 
 -- ---- what acceptance says
 

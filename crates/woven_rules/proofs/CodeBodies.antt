@@ -24,14 +24,16 @@ use Rattle.hamming_gen.specs.declared.words.CheckWord.{CheckWord}
 use Rattle.hamming_gen.specs.declared.words.PartWords.{PartWords}
 use Rattle.protect.specs.GuardedParts as g
 use Rattle.protect.specs.Protected as z
+use Rattle.protect_laws.proofs.CheckWords.{few-checks}
+use Rattle.protect_laws.proofs.Exits.{front-of, back-of}
+use Rattle.protect_laws.proofs.Known.{every-unmapped, every-by}
 use Rattle.protect_laws.specs.Strip.{AreKnown}
 use Rattle.woven_rules.proofs.Right.{Rights}
 use Rattle.woven_rules.proofs.Numeric.{HoldsNumber}
 use Rattle.woven_rules.proofs.Tags as t
 use Rattle.woven_rules.proofs.Tags.{IsKnown}
-use Rattle.woven_rules.proofs.Lineages.{every-by}
 use Rattle.woven_rules.proofs.Members.{members}
-use Rattle.woven_rules.proofs.Keys.{key, part, extra_members, extra_keys, check_keys, few-checks}
+use Rattle.woven_rules.proofs.Keys.{key, part, extra_members, extra_keys, check_keys}
 use Rattle.woven_rules.proofs.World.{Setting, Own, IsFound, Facts, guard_in}
 use Rattle.woven_rules.proofs.Inherits.{of-members, part-known}
 use Rattle.woven_rules.proofs.OwnItems.{IsNumberMember, own-found, extras-found}
@@ -39,7 +41,6 @@ use Rattle.woven_rules.proofs.PartBodies.{At, IsKnownTag, HasFirst, HasSecond, h
 use Rattle.woven_rules.proofs.HammingBodies.{Apart, IsGood, Scope, locals_of, repair-words-right, renew-words-right}
 use Rattle.woven_rules.proofs.WordLocals.{HasLetter, IsLocalName, letters-differ, letter-foreign, letter-no-class, locals-apart, locals-are-local}
 use Rattle.woven_rules.proofs.PartLocals.{locals, locals-are}
-use Rattle.woven_rules.proofs.Lists.{back-of, front-of, of-mapped}
 
 module _ (s : Setting) (f' : Facts s) (class : ℕ) (k : ClassTree) (c : IsFound s class k)
     (some : is_some (g.part_of s.guards k) ≡ true) (index : ℕ) where
@@ -176,7 +177,7 @@ module _ (s : Setting) (f' : Facts s) (class : ℕ) (k : ClassTree) (c : IsFound
     few = let low = c.also.few some in omega arith
 
     few-r : r < 2 ^ 32
-    few-r = let low = c.also.few some in let most = few-checks names (length ms) in omega arith
+    few-r = let low = c.also.few some in let most = few-checks (length ms) in omega arith
 
     abbrev nothing : List (ℕ × Thing)
     nothing = []
@@ -213,13 +214,13 @@ module _ (s : Setting) (f' : Facts s) (class : ℕ) (k : ClassTree) (c : IsFound
       (map (copies.first_member names k.name.at) ms ++ map (copies.second_member names k.name.at) ms)) where
     firsts-found : Every (HasFirst s f' class k c some index) ms
     firsts-found =
-        of-mapped HoldsOne (copies.first_member names k.name.at) ms
+        every-unmapped HoldsOne (copies.first_member names k.name.at) ms
         (front-of HoldsOne (map (copies.first_member names k.name.at) ms)
         (map (copies.second_member names k.name.at) ms) found)
 
     seconds-found : Every (HasSecond s f' class k c some index) ms
     seconds-found =
-        of-mapped HoldsOne (copies.second_member names k.name.at) ms
+        every-unmapped HoldsOne (copies.second_member names k.name.at) ms
         (back-of HoldsOne (map (copies.first_member names k.name.at) ms)
         (map (copies.second_member names k.name.at) ms) found)
 

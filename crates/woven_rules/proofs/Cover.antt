@@ -1,5 +1,7 @@
 -- The distinct names of a protected program are few: those of its source, those of locals, and those of its parts.
 use Rattle.std.proofs.Common.{◌≡◌, ◌≢◌, inl, inr, refl, sym, ap, ◌∙◌, subst, ℕ, zero, suc, ◌+◌, ◌*◌, ◌<◌, ◌≤◌, arith, Bool, true, false, List, [], ◌∷◌, ◌++◌, map, length, Some, is_some, codes, nat_eq, length-append}
+use Rattle.std.proofs.lemmas.List.FromFn.{length-range_with_len}
+use Rattle.std.proofs.lemmas.List.{length-map}
 use Rattle.std.specs.List.{range_with_len}
 use Rattle.std.proofs.lemmas.Option.{same_Some}
 use Rattle.std.proofs.lemmas.Bool.{eqb-true}
@@ -32,12 +34,12 @@ use Rattle.entry_count.specs.PartCode.{enter, leave}
 use Rattle.protect.specs.GuardedParts as g
 use Rattle.protect.specs.Protected as z
 use Rattle.woven_rules.proofs.Seen.{OwnNames, own-front, own-back}
-use Rattle.woven_rules.proofs.Lineages.{every-by, head-kept}
+use Rattle.woven_rules.proofs.Lineages.{head-kept}
 use Rattle.woven_rules.proofs.PartsFound.{Any, HasPart, InLineage, parts-in}
 use Rattle.woven_rules.proofs.Members.{members}
 use Rattle.woven_rules.proofs.WrappedRight.{value_at}
 use Rattle.woven_rules.proofs.Tags as t
-use Rattle.woven_rules.proofs.Keys.{Key, key, name_of, keys_of, extra_keys, first_keys, second_keys, check_keys, six_keys, few-checks, every-both}
+use Rattle.woven_rules.proofs.Keys.{Key, key, name_of, keys_of, extra_keys, first_keys, second_keys, check_keys, six_keys, every-both}
 use Rattle.woven_rules.proofs.Counting.{AreFew, few-front, few-back, not-limit}
 use Rattle.woven_rules.proofs.Found as found
 use Rattle.woven_rules.proofs.World.{Setting, source_of, woven_of, weave, parts_of, added_to, ClassFacts, guard_in, site, IsFound, Facts}
@@ -50,7 +52,9 @@ use Rattle.woven_rules.proofs.PartLocals.{group}
 use Rattle.woven_rules.proofs.Sights.{Elem, elem-front, elem-back, sights-few, distinct_numbers, names-elem, distinct-few}
 use Rattle.woven_rules.proofs.WovenNames.{names-both, items-both, items-in}
 use Rattle.woven_rules.proofs.AddedNames.{LocalsIn, added-in}
-use Rattle.woven_rules.proofs.Lists.{back-of, length-mapped, length-range}
+use Rattle.protect_laws.proofs.CheckWords.{few-checks}
+use Rattle.protect_laws.proofs.Exits.{back-of}
+use Rattle.protect_laws.proofs.Known.{every-by}
 
 -- ---- lists
 
@@ -121,8 +125,8 @@ module _ (names : List (List ℕ)) where
 
   group-length : (begins : List ℕ) (i k : ℕ) → length (numbers (group names begins i k)) ≡ k
   group-length begins i k =
-      length-mapped (λ (x : NameId). x.0) (group names begins i k)
-      ∙ (length-mapped (λ j. numbered names begins j) (range_with_len i k) ∙ length-range i k)
+      length-map (group names begins i k) (λ (x : NameId). x.0)
+      ∙ (length-map (range_with_len i k) (λ j. numbered names begins j) ∙ length-range_with_len i k)
 
   one-longer : (begins : List ℕ) (i k rest : ℕ) (others : List ℕ) → length others ≤ rest
       → length (numbers (group names begins i k) ++ others) ≤ k + rest
@@ -184,7 +188,7 @@ module _ (names : List (List ℕ)) where
         λ j above below. in-group (codes "__gop_m_") 1 120 from_x lift-m j above (omega arith)
     locals-in guard.Hamming k low =
         let r = check_words k in
-        let few = few-checks names k in
+        let few = few-checks k in
         let In = λ (x : NameId). Q x.0 in
         every-both In (group names (codes "__gop_x_") 1 k) _
         (each-of Q (codes "__gop_x_") 1 k
@@ -210,16 +214,16 @@ module _ (names : List (List ℕ)) where
 keys-few : (names : List (List ℕ)) (kind : GuardKind) (class : Placed NameId) (ms : List Member) → length ms ≤ 120
     → length (keys_of names kind class ms) ≤ 246
 keys-few names guard.Copies class ms low =
-    let one = length-mapped (λ (m : Member). key t.first m.name.item) ms in
-    let two = length-mapped (λ (m : Member). key t.second m.name.item) ms in
+    let one = length-map ms (λ (m : Member). key t.first m.name.item) in
+    let two = length-map ms (λ (m : Member). key t.second m.name.item) in
     let both = length-append (first_keys names class ms) (second_keys names class ms) in
     let all = length-append (first_keys names class ms ++ second_keys names class ms) (six_keys names class) in
     omega arith
 keys-few names guard.Hamming class ms low =
     let js = range_with_len 0 (check_words (length ms)) in
-    let one = length-mapped (λ j. key (t.check j) class.item) js in
-    let two = length-range 0 (check_words (length ms)) in
-    let few = few-checks names (length ms) in
+    let one = length-map js (λ j. key (t.check j) class.item) in
+    let two = length-range_with_len 0 (check_words (length ms)) in
+    let few = few-checks (length ms) in
     let both = length-append (check_keys names class js) (key t.parity class.item ∷ []) in
     let all = length-append (check_keys names class js ++ key t.parity class.item ∷ []) (six_keys names class) in
     omega arith
@@ -452,7 +456,7 @@ module _ (s : Setting) where
         by : (b : Bool) → is_some (g.part_of s.guards k) ≡ b → length (keys_if b (own_keys k)) ≤ 246
         by true some =
             let low = keys-few names (guard_in s k) k.name (members k.items) (c.also.few some) in
-            let same = length-mapped (λ q. (name_of names q).0) (own_keys k) in
+            let same = length-map (own_keys k) (λ q. (name_of names q).0) in
             omega arith
         by false none = omega arith
 

@@ -1,5 +1,7 @@
 -- A part adds few items to a class, and few locals stand in its functions.
 use Rattle.std.proofs.Common.{◌≡◌, refl, ap, ◌∙◌, ℕ, suc, ◌+◌, ◌<◌, ◌≤◌, arith, List, [], ◌∷◌, ◌++◌, map, length, Option, length-append}
+use Rattle.std.proofs.lemmas.List.FromFn.{length-range_with_len}
+use Rattle.std.proofs.lemmas.List.{length-map}
 use Rattle.std.specs.List.{range_with_len}
 use Rattle.agxx_base.specs.declared.ids.NameId.{NameId}
 use Rattle.agxx_base.specs.declared.kind.Mode.TheVariants as mode
@@ -34,8 +36,8 @@ use Rattle.protect.specs.Protected as z
 use Rattle.woven_rules.proofs.Counting.{AreFew}
 use Rattle.woven_rules.proofs.FewForms.{ShortStmt, few-both, counted-few, few-body}
 use Rattle.woven_rules.proofs.FewWrapped.{Has, has-both, has-more, IsBegun}
-use Rattle.woven_rules.proofs.Keys.{part, extra_members, six_items, items_of, few-checks}
-use Rattle.woven_rules.proofs.Lists.{length-mapped, length-range}
+use Rattle.woven_rules.proofs.Keys.{part, extra_members, six_items, items_of}
+use Rattle.protect_laws.proofs.CheckWords.{few-checks}
 
 -- ---- lengths
 
@@ -144,9 +146,9 @@ module _ (names : List (List ℕ)) (class : Placed NameId) (ms : List Member) (f
   many-few =
       let one = length-words names 1 3 ms in
       let two : length words.checks ≡ check_words (length ms) =
-      length-mapped (hamming.check_word names class.item) (range_with_len 0 (check_words (length ms)))
-      ∙ length-range 0 (check_words (length ms)) in
-      let most = few-checks names (length ms) in
+      length-map (range_with_len 0 (check_words (length ms))) (hamming.check_word names class.item)
+      ∙ length-range_with_len 0 (check_words (length ms)) in
+      let most = few-checks (length ms) in
       omega arith
 
   abbrev IsFewLocals : List StmtTree → Type 0
@@ -182,8 +184,8 @@ module _ (names : List (List ℕ)) (class : Placed NameId) (ms : List Member) (f
   -- so many members are added by a code
   extras-few : (kind : GuardKind) → length (extra_members names kind class ms) ≤ 240
   extras-few guard.Copies =
-      let one = length-mapped (copies.first_member names class.at) ms in
-      let two = length-mapped (copies.second_member names class.at) ms in
+      let one = length-map ms (copies.first_member names class.at) in
+      let two = length-map ms (copies.second_member names class.at) in
       let both =
       length-append (map (copies.first_member names class.at) ms) (map (copies.second_member names class.at) ms)
       in
@@ -191,10 +193,10 @@ module _ (names : List (List ℕ)) (class : Placed NameId) (ms : List Member) (f
   extras-few guard.Hamming =
       let check = λ (j : ℕ). h.word_member class.at (hamming.check_name names class.item j) in
       let js = range_with_len 0 (check_words (length ms)) in
-      let one = length-mapped check js in
-      let two = length-range 0 (check_words (length ms)) in
+      let one = length-map js check in
+      let two = length-range_with_len 0 (check_words (length ms)) in
       let both = length-append (map check js) (h.word_member class.at (hamming.parity_name names class.item) ∷ []) in
-      let most = few-checks names (length ms) in
+      let most = few-checks (length ms) in
       omega arith
 
   -- ---- the items

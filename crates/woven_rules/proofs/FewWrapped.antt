@@ -28,7 +28,8 @@ use Rattle.protect.specs.Protected as z
 use Rattle.woven_rules.proofs.Counting.{AreFew, few-front, few-back, block-values, body-low}
 use Rattle.woven_rules.proofs.FewForms.{ShortStmt, ShortStmts, ShortBlock, ShortIf, ShortElse, few-both, few-expr, few-arguments, few-body, short-body}
 use Rattle.cxx_make.specs.Made as made
-use Rattle.woven_rules.proofs.WrappedRight.{value_at, calls, entering-is, leaving-is, returning-is, end-is}
+use Rattle.woven_rules.proofs.WrappedRight.{value_at}
+use Rattle.protect_laws.proofs.Shapes.{calls, entering-is, leaving-is, returning-is, end-is}
 
 -- ---- lists of statements
 
@@ -73,7 +74,7 @@ module _ (names : List (List ℕ)) (result : TypeName) (parts : List NameId) whe
       let rest =
       has-both (calls (leave names) at (reverse parts)) last 0 0 0 1 (calls-have (leave names) at (reverse parts))
       (omega arith, omega arith, (tt, tt)) in
-      subst (Has 1 1) (sym (returning-is names parts result at k x))
+      subst (Has 1 1) (sym (returning-is names parts result at (suc k) x))
       (let l = rest.0 in omega arith, (let r = rest.1 in omega arith), (tt, rest.2))
 
   mutual

@@ -28,10 +28,9 @@ use Rattle.hamming_gen.specs.declared.words.CheckWord.{CheckWord}
 use Rattle.hamming_gen.specs.declared.words.PartWords.{PartWords}
 use Rattle.woven_rules.proofs.Tables.{named-new, named-other, named-still}
 use Rattle.woven_rules.proofs.Right.{Rights, joined}
-use Rattle.woven_rules.proofs.Lineages.{every-by}
 use Rattle.woven_rules.proofs.Keys.{every-both}
 use Rattle.woven_rules.proofs.Numeric.{HoldsNumber, IsNumeric, numeric, assigned, assign-right, declared, local-right}
-use Rattle.woven_rules.proofs.Lists.{every-map}
+use Rattle.protect_laws.proofs.Known.{every-mapped, every-by}
 
 -- a local for a word
 abbrev pub word_thing : Thing
@@ -263,10 +262,10 @@ module _ (w : Site) (place : Place) (Use : NameId → Type 0)
       names-has : (t : List (ℕ × Thing)) → Uses t → LocalWords t → Every (Has t) (h.word_names cs ms)
       names-has t uses all =
           every-both (Has t) (h.check_names cs) (map (λ (m : MemberWord). m.word) ms)
-          (every-map (Has t) (λ (c : CheckWord). c.name) cs
+          (every-mapped (Has t) (λ (c : CheckWord). c.name) cs
           (every-by (λ (c : CheckWord). Use c.name) (λ (c : CheckWord). Has t c.name)
           (λ c is. use-has t uses c.name is) cs checks))
-          (every-map (Has t) (λ (m : MemberWord). m.word) ms (words-has t all))
+          (every-mapped (Has t) (λ (m : MemberWord). m.word) ms (words-has t all))
 
       -- ---- mending
 
@@ -395,8 +394,8 @@ module _ (w : Site) (place : Place) (Use : NameId → Type 0)
             local-has v words.uneven is l r,
             all-joined-num v op.BitOr (h.fault_names cs ms)
                 (every-both (Has v) (map (λ (m : MemberWord). m.fault) ms) (map (λ (c : CheckWord). c.fault) cs)
-                (every-map (Has v) (λ (m : MemberWord). m.fault) ms one)
-                (every-map (Has v) (λ (c : CheckWord). c.fault) cs two)) l r,
+                (every-mapped (Has v) (λ (m : MemberWord). m.fault) ms one)
+                (every-mapped (Has v) (λ (c : CheckWord). c.fault) cs two)) l r,
           )
 
       -- ---- sums
@@ -451,7 +450,7 @@ module _ (w : Site) (place : Place) (Use : NameId → Type 0)
           (use-has v last.uses words.parity parity) (names-has v last.uses (grown-words u v more local)))
           (λ x most total left. declare-then x words.uneven uneven_value faulty (fault_locals_of words) left
           (all-joined-num x op.BitOr (h.sum_names cs)
-          (every-map (Has x) (λ (c : CheckWord). c.sum) cs (sums-has x (grown-sums v x most sums))))
+          (every-mapped (Has x) (λ (c : CheckWord). c.sum) cs (sums-has x (grown-sums v x most sums))))
           (λ z end uneven rest. faults-right z (grown-words u z (λ n is. end n (most n (more n is))) local)
           (grown-sums v z (λ n is. end n (most n is)) sums) (end words.total total) uneven rest))))
 

@@ -25,16 +25,17 @@ use Rattle.guards.specs.Guarding.{kind_of}
 use Rattle.hamming_gen.specs.Positions.{check_words}
 use Rattle.protect.specs.GuardedParts as g
 use Rattle.protect.specs.GeneratedNames.{texts_of_part}
+use Rattle.protect_laws.proofs.Exits.{front-of, back-of}
+use Rattle.protect_laws.proofs.Known.{every-by}
 use Rattle.protect_laws.specs.Strip.{AreKnown}
 use Rattle.woven_rules.proofs.Wider.{IsWiderAt, IsWiderClass, lineage-same}
-use Rattle.woven_rules.proofs.Lineages.{every-by, base_lineage, lineage-is, base-lineage-below}
+use Rattle.woven_rules.proofs.Lineages.{base_lineage, lineage-is, base-lineage-below}
 use Rattle.woven_rules.proofs.Members.{members, IsGoodMember, good-members, tables-fit, have-entries, DifferFrom, AllDiffer, members-differ}
 use Rattle.woven_rules.proofs.Tags as t
 use Rattle.woven_rules.proofs.Tags.{Tag, IsSmall, IsKnown, tagged-foreign}
 use Rattle.woven_rules.proofs.Keys.{Key, key, AreApart, name_of, IsKnownKey, IsAbsent, AllKnown, all-known, keys_of, extra_keys, first_keys, second_keys, check_keys, six_keys, keys-small, apart-each, cross, every-both, every-of}
 use Rattle.woven_rules.proofs.Found.{inside_class}
 use Rattle.woven_rules.proofs.World.{Setting, Own, source_of, woven_of, weave, site, ClassFacts, IsFound, Facts, guard_in, woven-avoid, IsClass, class-at, absent}
-use Rattle.woven_rules.proofs.Lists.{back-of, front-of}
 
 -- ---- lists
 

@@ -1,5 +1,6 @@
 -- The items that a part adds to a class, by the tags and the names that theirs are made of.
-use Rattle.std.proofs.Common.{◌≡◌, ◌≢◌, refl, sym, ap, ◌∙◌, subst, ℕ, zero, suc, ◌+◌, ◌^◌, ◌<◌, ◌≤◌, arith, Bool, true, false, if◌then◌else◌, List, [], ◌∷◌, ◌++◌, map, length, Some, None, codes}
+use Rattle.std.proofs.Common.{◌≡◌, ◌≢◌, refl, sym, ap, ◌∙◌, subst, ℕ, zero, suc, ◌+◌, ◌^◌, ◌<◌, ◌≤◌, arith, List, [], ◌∷◌, ◌++◌, map, length, Some, None, codes}
+use Rattle.std.proofs.lemmas.List.{length-map}
 use Rattle.std.specs.List.{range_with_len}
 use Rattle.agxx_base.specs.declared.ids.NameId.{NameId}
 use Rattle.agxx_base.specs.Names.{IsDistinct}
@@ -15,20 +16,20 @@ use Rattle.guards.specs.declared.guard.GuardKind.{GuardKind}
 use Rattle.guards.specs.declared.guard.GuardKind.TheVariants as guard
 use Rattle.codec.specs.declared.part.Part.{Part}
 use Rattle.codec.specs.Copies as copies
-use Rattle.hamming_gen.specs.Positions.{is_enough, enough_from, check_words}
+use Rattle.hamming_gen.specs.Positions.{check_words}
 use Rattle.hamming_gen.specs.HammingNames as hamming
 use Rattle.hamming_gen.specs.HammingTrees as h
 use Rattle.entry_count.specs.PartCode as code
 use Rattle.entry_count.specs.PartCode.{beginning}
 use Rattle.protect.specs.Protected as z
 use Rattle.protect.specs.GeneratedNames.{own_texts, texts_of_part}
+use Rattle.protect_laws.proofs.CheckWords.{few-checks}
+use Rattle.protect_laws.proofs.Known.{every-by}
 use Rattle.protect_laws.specs.Strip.{AreKnown}
 use Rattle.woven_rules.proofs.Standing.{Avoids, AreNew}
-use Rattle.woven_rules.proofs.Lineages.{every-by}
 use Rattle.woven_rules.proofs.Members.{DifferFrom, AllDiffer}
 use Rattle.woven_rules.proofs.Tags as t
 use Rattle.woven_rules.proofs.Tags.{Tag, IsSmall, IsExtra, IsCheck, tagged, IsKnown, tagged-back, same-id, counter-is, lock-is, repair-is, renew-is, enter-is, leave-is}
-use Rattle.woven_rules.proofs.Lists.{length-mapped}
 
 pub record Key : Type 0 where
   pub tag : Tag
@@ -493,21 +494,6 @@ module _ (names : List (List ℕ)) where
           ),
         )
 
-  -- ---- numbers of check words
-
-  few-more : (k r more : ℕ) → enough_from k r more ≤ r + more
-  few-more k r zero = omega arith
-  few-more k r (suc more) = by (is_enough k r) (few-more k (suc r) more)
-    where
-      by : (b : Bool) → enough_from k (suc r) more ≤ suc r + more
-          → (if b then r else enough_from k (suc r) more) ≤ r + suc more
-      by true rest = omega arith
-      by false rest = omega (arith, rest)
-
-  pub few-checks : (k : ℕ) → check_words k ≤ k + 1
-  unfolding check_words
-  few-checks k = omega (arith, few-more k 0 (k + 1))
-
   module _ (class : Placed NameId) where
     checks-small : (i n : ℕ) → i + n < 2 ^ 64
         → Every (λ (k : Key). IsSmall k.tag) (check_keys class (range_with_len i n))
@@ -573,8 +559,8 @@ module _ (names : List (List ℕ)) where
     extras-known guard.Hamming ms all =
         let name = text_of names class.item in
         let many : length (texts ms) ≡ length ms =
-        length-mapped (text_of names) (map (λ (m : Member). m.name.item) ms)
-        ∙ length-mapped (λ (m : Member). m.name.item) ms in
+        length-map (map (λ (m : Member). m.name.item) ms) (text_of names)
+        ∙ length-map ms (λ (m : Member). m.name.item) in
         let js = range_with_len 0 (check_words (length ms)) in
         let here : AreKnown names (map (hamming.check_text name) js ++ hamming.parity_text name ∷ []) =
         subst (λ k. AreKnown names (hamming.added_texts name k)) many all in

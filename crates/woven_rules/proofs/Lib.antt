@@ -1,4 +1,3 @@
-pub mod Lists
 pub mod Tables
 pub mod Wider
 pub mod Named

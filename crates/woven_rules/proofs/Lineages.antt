@@ -15,12 +15,9 @@ use Rattle.cxx_names.specs.LookUp as look
 use Rattle.cxx_names.specs.Tables.{named}
 use Rattle.woven_rules.proofs.Tables.{named-with}
 use Rattle.woven_rules.proofs.Standing.{behind, member_behind, function_behind, ctor_behind, dtor_behind}
+use Rattle.protect_laws.proofs.Known.{every-by}
 
 -- ---- lists
-
-pub every-by : {A : Type 0} (P Q : A → Type 0) → ((x : A) → P x → Q x) → (xs : List A) → Every P xs → Every Q xs
-every-by P Q one [] all = tt
-every-by P Q one (x ∷ xs) all = (one x all.0, every-by P Q one xs all.1)
 
 -- one more at the end
 pub at-one-more : {A : Type 0} (xs : List A) (y : A) (i : ℕ) (z : A) → slice_get (xs ++ y ∷ []) i ≡ Some z

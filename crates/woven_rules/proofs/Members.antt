@@ -32,7 +32,7 @@ use Rattle.woven_rules.specs.WovenRules.{HasPlainType}
 use Rattle.woven_rules.proofs.Tables.{same-number, named-with, named-new, named-other, named-still}
 use Rattle.woven_rules.proofs.Right.{Right, Rights, back, holds}
 use Rattle.woven_rules.proofs.Standing.{behind, member_behind, function_behind, ctor_behind, dtor_behind}
-use Rattle.woven_rules.proofs.Lineages.{every-by}
+use Rattle.protect_laws.proofs.Known.{every-by}
 
 abbrev pub members : List ItemTree → List Member
 members is = flat_map members_in is

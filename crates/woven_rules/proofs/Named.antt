@@ -1,11 +1,10 @@
 -- Generated names are told by their texts, and are none of a program's own.
-use Rattle.std.proofs.Common.{◌≡◌, ◌≢◌, refl, sym, ap, ◌∙◌, ℕ, zero, suc, ◌+◌, ◌<◌, ◌^◌, arith, subst, true, false, true≢false, List, [], ◌++◌, get_or, drop, slice_get, codes, decimal}
-use Rattle.std.specs.Option.{unwrap_or}
+use Rattle.std.proofs.Common.{◌≡◌, ◌≢◌, refl, sym, ap, ◌∙◌, ℕ, suc, ◌+◌, ◌<◌, ◌^◌, arith, subst, true, false, true≢false, List, ◌++◌, get_or, drop, slice_get, codes, decimal}
 use Rattle.std.proofs.lemmas.Fmt.{decimal_injective}
 use Rattle.agxx_base.specs.Names.{is_known}
-use Rattle.agxx_base.proofs.Interning.{at-number}
 use Rattle.cxx_make.specs.Generated.{text_of, named, numbered}
 use Rattle.entry_count.specs.Wrapping.{value_texts}
+use Rattle.protect_laws.proofs.Known.{named-text, generated-named, value-known}
 use Rattle.protect_laws.specs.Strip.{begins_generated, is_generated, AreKnown}
 
 -- texts differ where they have other bytes at some place
@@ -17,45 +16,26 @@ abbrev pub IsOwn : List (List ℕ) → List (List ℕ) → ℕ → Type 0
 IsOwn before names k = (is_generated names (record { 0 = k }) ≡ false) × (slice_get names k ≡ slice_get before k)
 
 module _ (names : List (List ℕ)) where
-  pub text-named : (text : List ℕ) → is_known names text ≡ true → text_of names (named names text) ≡ text
-  text-named text known = ap (λ x. unwrap_or x []) (at-number names text known)
-
-  pub generated-named : (text : List ℕ) → begins_generated text ≡ true → is_known names text ≡ true
-      → is_generated names (named names text) ≡ true
-  generated-named text begins known = ap begins_generated (text-named text known) ∙ begins
-
   -- a name of a program isn't generated
   pub named-foreign : (before : List (List ℕ)) (text : List ℕ) → begins_generated text ≡ true
       → is_known names text ≡ true → (j : ℕ) → IsOwn before names j → j ≢ (named names text).0
   named-foreign before text begins known j own e =
-      true≢false (sym (generated-named text begins known)
+      true≢false (sym (generated-named names text begins known)
       ∙ (ap (λ k. is_generated names (record { 0 = k })) (sym e) ∙ own.0))
 
   -- other texts are those of other names
   pub named-differ : (text more : List ℕ) → is_known names text ≡ true → is_known names more ≡ true → text ≢ more
       → (named names text).0 ≢ (named names more).0
   named-differ text more known also differ e =
-      differ (sym (text-named text known) ∙ (ap (λ k. text_of names (record { 0 = k })) e ∙ text-named more also))
+      differ (sym (named-text names text known) ∙ (ap (λ k. text_of names (record { 0 = k })) e ∙ named-text names more also))
 
   -- ---- the locals for returned values
-
-  value-known : (i n : ℕ) → AreKnown names (value_texts i n) → (k : ℕ) → k < n
-      → is_known names (codes "__gop_r_" ++ decimal (i + k)) ≡ true
-  value-known i zero all k below = absurd (omega arith)
-  value-known i (suc n) all zero below =
-      subst (λ j. is_known names (codes "__gop_r_" ++ decimal j) ≡ true) (omega arith) all.0
-  value-known i (suc n) all (suc k) below =
-      subst (λ j. is_known names (codes "__gop_r_" ++ decimal j) ≡ true) (one-on i k)
-      (value-known (suc i) n all.1 k (omega arith))
-    where
-      one-on : (i k : ℕ) → suc i + k ≡ i + suc k
-      one-on i k = omega arith
 
   module _ (most : ℕ) (known : AreKnown names (value_texts 1 most)) where
     pub value-text-known : (i : ℕ) → i < most → is_known names (codes "__gop_r_" ++ decimal (suc i)) ≡ true
     value-text-known i below =
         subst (λ j. is_known names (codes "__gop_r_" ++ decimal j) ≡ true) (omega arith)
-        (value-known 1 most known i below)
+        (value-known names 1 most known i below)
 
     pub value-foreign : (before : List (List ℕ)) (i j : ℕ) → i < most → IsOwn before names j
         → (numbered names (codes "__gop_r_") (suc i)).0 ≢ j

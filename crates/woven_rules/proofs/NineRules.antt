@@ -20,7 +20,6 @@ use Rattle.woven_rules.proofs.Named.{value-foreign, value-differ}
 use Rattle.woven_rules.proofs.Right.{Right, Rights, clear-all, joined}
 use Rattle.woven_rules.proofs.Seen.{OwnNames, own-front, own-back, Both}
 use Rattle.woven_rules.proofs.Wider.{class-same}
-use Rattle.woven_rules.proofs.Lineages.{every-by}
 use Rattle.woven_rules.proofs.WrappedRight.{value_at}
 use Rattle.woven_rules.proofs.WrappedPrograms.{IsMade, AreMade, decls-right}
 use Rattle.woven_rules.proofs.Found as found
@@ -29,6 +28,7 @@ use Rattle.woven_rules.proofs.Procedures.{enters-called, leaves-called-back}
 use Rattle.woven_rules.proofs.AddedRight.{added-right}
 use Rattle.woven_rules.proofs.Assembled.{setting, are-right}
 use Rattle.woven_rules.proofs.Ready.{facts, rights, owned}
+use Rattle.protect_laws.proofs.Known.{every-by}
 
 module _ (s : Setting) (f : Facts s) where
   foreign : (i j : ℕ) → i < s.most → Own s j → (value_at s.names i).0 ≢ j

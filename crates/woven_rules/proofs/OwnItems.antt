@@ -45,7 +45,7 @@ use Rattle.woven_rules.proofs.Tables.{same-number}
 use Rattle.woven_rules.proofs.Wider.{member-same}
 use Rattle.woven_rules.proofs.Seen.{own-back}
 use Rattle.woven_rules.proofs.Standing.{kept, behind, shown_behind, count_behind, number_behind, behind-both, AreNew, Stand, stand, member_behind, function_behind, ctor_behind, dtor_behind}
-use Rattle.woven_rules.proofs.Lineages.{every-by, lineage-is}
+use Rattle.woven_rules.proofs.Lineages.{lineage-is}
 use Rattle.woven_rules.proofs.Members.{members, IsGoodMember, HoldNumbers, hold-numbers, have-entries, tables-fit}
 use Rattle.woven_rules.proofs.Tags as t
 use Rattle.woven_rules.proofs.Keys.{Key, name_of, IsKnownKey, IsAbsent, Keyed, keys_of, extra_keys, six_keys, extra_members, items_of, six_items, items-are, extras-keyed, all-keyed, keys-apart, are-new, every-both, every-of}
@@ -53,7 +53,8 @@ use Rattle.woven_rules.proofs.WrappedClasses.{seen_after}
 use Rattle.woven_rules.proofs.Found as found
 use Rattle.woven_rules.proofs.World.{Setting, ClassFacts, site, Own, source_of, woven_of, weave, parts_of, added_to, IsFound, Facts, guard_in, own-avoid}
 use Rattle.woven_rules.proofs.Inherits.{of-members, keys-known, key-foreign, me, before_info, after_info, place, lineage, above, no-items, good, differ, keys-absent}
-use Rattle.woven_rules.proofs.Lists.{back-of, front-of}
+use Rattle.protect_laws.proofs.Exits.{front-of, back-of}
+use Rattle.protect_laws.proofs.Known.{every-by}
 
 -- ---- lists
 

@@ -42,6 +42,7 @@ use Rattle.codec.specs.Copies as copies
 use Rattle.entry_count.specs.PartCode as code
 use Rattle.entry_count.specs.PartCode.{enter_body, leave_body, take_lock, free_lock, is_zero, counts, when_zero, repairs, renews}
 use Rattle.protect.specs.GuardedParts as g
+use Rattle.protect_laws.proofs.Exits.{front-of, back-of}
 use Rattle.protect_laws.specs.Strip.{AreKnown}
 use Rattle.woven_rules.proofs.Tables.{same-number, named-new, named-other}
 use Rattle.woven_rules.proofs.Right.{Rights, joined}
@@ -60,7 +61,6 @@ use Rattle.woven_rules.proofs.World.{Setting, Own, source_of, woven_of, IsFound,
 use Rattle.woven_rules.proofs.Inherits.{of-members, me}
 use Rattle.woven_rules.proofs.OwnItems.{own-usable, IsNumberMember, own-found, counter-found, lock-found}
 use Rattle.woven_rules.proofs.Procedures.{repair-called, renew-called}
-use Rattle.woven_rules.proofs.Lists.{back-of, front-of}
 
 -- a number of a variable
 abbrev pub number_thing : NumKind → Thing

@@ -14,7 +14,8 @@ use Rattle.guards.specs.declared.guard.Guard.{Guard}
 use Rattle.guards.specs.declared.guard.GuardKind.{GuardKind}
 use Rattle.guards.specs.Guarding.{kind_of}
 use Rattle.protect.specs.GuardedParts as g
-use Rattle.woven_rules.proofs.Lineages.{every-by, at-seam, IsBuilt, base_lineage, lineage-is}
+use Rattle.woven_rules.proofs.Lineages.{at-seam, IsBuilt, base_lineage, lineage-is}
+use Rattle.protect_laws.proofs.Known.{every-by}
 
 -- something holds of one of them
 abbrev pub Any : {A : Type 0} → (A → Type 0) → List A → Type 0

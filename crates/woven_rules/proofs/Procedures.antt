@@ -25,7 +25,7 @@ use Rattle.protect.specs.GuardedParts as g
 use Rattle.woven_rules.proofs.Tables.{same-number}
 use Rattle.woven_rules.proofs.Wider.{lineage-same}
 use Rattle.woven_rules.proofs.Standing.{behind, function_behind, ctor_behind, dtor_behind}
-use Rattle.woven_rules.proofs.Lineages.{every-by, head-kept}
+use Rattle.woven_rules.proofs.Lineages.{head-kept}
 use Rattle.woven_rules.proofs.PartsFound.{Any, any-by, HasPart, InLineage, parts-in}
 use Rattle.woven_rules.proofs.Members.{members}
 use Rattle.woven_rules.proofs.Tags as t
@@ -36,7 +36,8 @@ use Rattle.woven_rules.proofs.Found as found
 use Rattle.woven_rules.proofs.World.{Setting, ClassFacts, site, Own, source_of, woven_of, weave, parts_of, IsFound, Facts, guard_in, woven-avoid, IsClass, class-at, absent}
 use Rattle.woven_rules.proofs.Inherits.{keys-known, key-foreign, me, after_info, lineage, above}
 use Rattle.woven_rules.proofs.OwnItems.{topmost-first, extras-stand, IsNowhere, six-nowhere}
-use Rattle.woven_rules.proofs.Lists.{back-of}
+use Rattle.protect_laws.proofs.Exits.{back-of}
+use Rattle.protect_laws.proofs.Known.{every-by}
 
 pub every-reverse : {A : Type 0} (P : A → Type 0) (xs : List A) → Every P xs → Every P (reverse xs)
 every-reverse P [] all = tt

@@ -14,8 +14,9 @@ use Rattle.codec.specs.Copies as copies
 use Rattle.hamming_gen.specs.HammingNames as hamming
 use Rattle.entry_count.specs.PartCode as part
 use Rattle.entry_count.specs.PartCode.{beginning}
+use Rattle.protect_laws.proofs.Known.{named-text}
 use Rattle.protect_laws.specs.Strip.{begins_generated}
-use Rattle.woven_rules.proofs.Named.{other, text-named, named-foreign, IsOwn}
+use Rattle.woven_rules.proofs.Named.{other, named-foreign, IsOwn}
 
 pub data Tag : Type 0 where
   counter : Tag
@@ -268,8 +269,8 @@ module _ (names : List (List ℕ)) where
       → (tagged a i).0 ≡ (tagged b j).0 → (a ≡ b) × (text_of names i ≡ text_of names j)
   tagged-back a b i j low high known also e =
       lead-back a b (text_of names i) (text_of names j) low high
-      (sym (text-named names (lead a ++ text_of names i) known)
-      ∙ (ap (λ k. text_of names (record { 0 = k })) e ∙ text-named names (lead b ++ text_of names j) also))
+      (sym (named-text names (lead a ++ text_of names i) known)
+      ∙ (ap (λ k. text_of names (record { 0 = k })) e ∙ named-text names (lead b ++ text_of names j) also))
 
   pub tagged-foreign : (before : List (List ℕ)) (a : Tag) (i : NameId) → IsKnown a i → (j : ℕ) → IsOwn before names j
       → j ≢ (tagged a i).0

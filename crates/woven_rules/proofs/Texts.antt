@@ -1,15 +1,14 @@
 -- The table of names once generated names have numbers.
 use Rattle.std.proofs.Common.{◌≡◌, ◌≢◌, refl, sym, ap, ◌∙◌, subst, ℕ, zero, suc, ◌<◌, arith, Bool, true, false, ◌||◌, List, [], ◌∷◌, ◌++◌, map, length, Option, Some, None, slice_get, codes}
-use Rattle.std.specs.List.{list_any, flat_map}
+use Rattle.std.specs.List.{flat_map}
 use Rattle.std.specs.Option.{unwrap_or}
 use Rattle.std.specs.Str.{bytes_eq}
 use Rattle.std.proofs.Math.ListN.{get_or}
-use Rattle.std.proofs.lemmas.List.Folds.{list_any-append}
 use Rattle.std.proofs.lemmas.List.Quantifiers.{all_pairs_push}
 use Rattle.std.proofs.lemmas.Slice.Eq.{bytes_eq-Decides}
 use Rattle.std.proofs.lemmas.Option.{none-some}
 use Rattle.agxx_base.specs.Names.{IsDistinct, is_known, interned}
-use Rattle.agxx_base.proofs.Interning.{interned-keeps, interned-known, interned-new}
+use Rattle.agxx_base.proofs.Interning.{interned-known, interned-new}
 use Rattle.agxx_base.specs.declared.ids.NameId.{NameId}
 use Rattle.cxx_tree.specs.declared.node.Placed.{Placed}
 use Rattle.cxx_tree.specs.declared.program.Member.{Member}
@@ -26,53 +25,13 @@ use Rattle.entry_count.specs.Wrapping.{value_texts}
 use Rattle.protect.specs.GuardedParts as g
 use Rattle.protect.specs.Protected.{code_of}
 use Rattle.protect.specs.GeneratedNames.{own_texts, texts_of_part, texts_of_decl, most_in_decls, generated_texts, with_generated}
+use Rattle.protect_laws.proofs.Exits.{front-of, back-of}
+use Rattle.protect_laws.proofs.Interned.{all-known, kept-through, there}
+use Rattle.protect_laws.proofs.Known.{every-by}
 use Rattle.protect_laws.specs.Strip.{begins_generated, is_generated, AreKnown}
-use Rattle.woven_rules.proofs.Lineages.{every-by}
 use Rattle.woven_rules.proofs.Named.{IsOwn}
 use Rattle.woven_rules.proofs.Members.{members}
 use Rattle.woven_rules.proofs.Inherits.{of-members}
-use Rattle.woven_rules.proofs.Lists.{back-of, front-of}
-
--- ---- texts that are added have numbers
-
-or-true : (b : Bool) → (b || true) ≡ true
-or-true true = refl
-or-true false = refl
-
-any-last : {A : Type 0} (test : A → Bool) (xs : List A) (x : A) → test x ≡ true → list_any test (xs ++ x ∷ []) ≡ true
-any-last test [] x one = rw one refl
-any-last test (y ∷ ys) x one = ap (λ b. test y || b) (any-last test ys x one) ∙ or-true (test y)
-
-any-front : {A : Type 0} (test : A → Bool) (xs ys : List A) → list_any test xs ≡ true
-    → list_any test (xs ++ ys) ≡ true
-any-front test xs ys one = list_any-append test xs ys ∙ ap (λ b. b || list_any test ys) one
-
-known-new : (names : List (List ℕ)) (text : List ℕ) → is_known (interned names text) text ≡ true
-known-new names text = by (is_known names text) refl
-  where
-    by : (b : Bool) → is_known names text ≡ b → is_known (interned names text) text ≡ true
-    by true e = rw (interned-known names text e) e
-    by false e =
-        rw (interned-new names text e) (any-last (bytes_eq text) names text ((bytes_eq-Decides text text).1 refl))
-
-known-still : (names : List (List ℕ)) (more text : List ℕ) → is_known names text ≡ true
-    → is_known (interned names more) text ≡ true
-known-still names more text known = by (is_known names more) refl
-  where
-    by : (b : Bool) → is_known names more ≡ b → is_known (interned names more) text ≡ true
-    by true e = rw (interned-known names more e) known
-    by false e = rw (interned-new names more e) (any-front (bytes_eq text) names (more ∷ []) known)
-
-known-through : (names : List (List ℕ)) (texts : List (List ℕ)) (text : List ℕ) → is_known names text ≡ true
-    → is_known (all_interned names texts) text ≡ true
-known-through names [] text known = known
-known-through names (more ∷ texts) text known =
-    known-through (interned names more) texts text (known-still names more text known)
-
-pub all-known : (names : List (List ℕ)) (texts : List (List ℕ)) → AreKnown (all_interned names texts) texts
-all-known names [] = tt
-all-known names (text ∷ texts) =
-    (known-through (interned names text) texts text (known-new names text), all-known (interned names text) texts)
 
 -- ---- they stay distinct
 
@@ -108,17 +67,6 @@ distinct-all names (text ∷ texts) distinct =
     distinct-all (interned names text) texts (distinct-more names text distinct)
 
 -- ---- texts stay
-
-kept-through : (names : List (List ℕ)) (texts : List (List ℕ)) (id : ℕ) (old : List ℕ) → slice_get names id ≡ Some old
-    → slice_get (all_interned names texts) id ≡ Some old
-kept-through names [] id old at = at
-kept-through names (text ∷ texts) id old at =
-    kept-through (interned names text) texts id old (interned-keeps names text old id at)
-
-there : (xs : List (List ℕ)) (k : ℕ) → k < length xs → (x : List ℕ) × (slice_get xs k ≡ Some x)
-there [] k below = absurd (omega arith)
-there (x ∷ xs) zero below = (x, refl)
-there (x ∷ xs) (suc k) below = there xs k (omega arith)
 
 within : (xs : List (List ℕ)) (k : ℕ) (x : List ℕ) → slice_get xs k ≡ Some x → k < length xs
 within [] k x at = absurd (none-some x at)

@@ -9,10 +9,10 @@ use Rattle.cxx_names.specs.Declarations as d
 use Rattle.cxx_names.specs.Declarations.{class_named}
 use Rattle.cxx_make.specs.Generated.{named, numbered}
 use Rattle.hamming_gen.specs.HammingNames.{numbered_texts, sum_texts, fault_texts}
+use Rattle.protect_laws.proofs.Known.{every-by}
 use Rattle.protect_laws.specs.Strip.{begins_generated, AreKnown}
 use Rattle.woven_rules.proofs.Wider.{class-same}
 use Rattle.woven_rules.proofs.Named.{named-foreign, named-differ}
-use Rattle.woven_rules.proofs.Lineages.{every-by}
 use Rattle.woven_rules.proofs.Keys.{every-both}
 use Rattle.woven_rules.proofs.HammingBodies.{Apart}
 use Rattle.woven_rules.proofs.PartLocals.{group, faults, locals}

@@ -1,6 +1,6 @@
 -- The names that stand in wrapped bodies are those of the bodies, of functions of parts, and of locals for returned
 -- values.
-use Rattle.std.proofs.Common.{sym, subst, ℕ, ◌+◌, ◌<◌, ◌≤◌, arith, Bool, true, false, if◌then◌else◌, List, [], ◌∷◌, ◌++◌, map, reverse, Option, Some, None}
+use Rattle.std.proofs.Common.{suc, sym, subst, ℕ, ◌+◌, ◌<◌, ◌≤◌, arith, Bool, true, false, if◌then◌else◌, List, [], ◌∷◌, ◌++◌, map, reverse, Option, Some, None}
 use Rattle.agxx_base.specs.declared.ids.NameId.{NameId}
 use Rattle.agxx_base.specs.declared.place.Place.{Place}
 use Rattle.cxx_tree.specs.declared.node.Placed.{Placed}
@@ -21,7 +21,8 @@ use Rattle.protect.specs.Protected as z
 use Rattle.protect.specs.GeneratedNames.{returns_of}
 use Rattle.woven_rules.proofs.Seen.{OwnNames, own-front, own-back}
 use Rattle.woven_rules.proofs.Keys.{every-both}
-use Rattle.woven_rules.proofs.WrappedRight.{value_at, calls, entering-is, leaving-is, returning-is, end-is}
+use Rattle.woven_rules.proofs.WrappedRight.{value_at}
+use Rattle.protect_laws.proofs.Shapes.{calls, entering-is, leaving-is, returning-is, end-is}
 
 module _ (Q : ℕ → Type 0) where
   pub names-both : (xs ys : List (Placed NameId)) → OwnNames Q xs → OwnNames Q ys → OwnNames Q (xs ++ ys)
@@ -76,7 +77,7 @@ module _ (Q : ℕ → Type 0) where
           let value = values k (omega arith) in
           let last : List StmtTree = s.return at (Some (made.variable at (value_at names k))) ∷ [] in
           let local : StmtTree = made.local at result (value_at names k) x in
-          subst AllIn (sym (returning-is names parts result at k x))
+          subst AllIn (sym (returning-is names parts result at (suc k) x))
           (names-both (n.names_in_stmt local) _ (names-both (n.names_in_type_at at result) _ (typed at) (value, own))
           (in-both (calls (leave names) at (reverse parts)) last (calls-in (leave names) at (reverse parts) leaves)
           (value, tt)))

@@ -1,5 +1,5 @@
 -- Wrapped bodies of functions that violate no rule violate none.
-use Rattle.std.proofs.Common.{◌≡◌, ◌≢◌, ◌⊎◌, inl, inr, refl, sym, ap, ◌∙◌, subst, ℕ, suc, ◌+◌, ◌≤◌, ◌<◌, arith, Bool, true, false, not, ◌||◌, if◌then◌else◌, List, [], ◌∷◌, ◌++◌, map, reverse, slice_get, Option, Some, None, is_some, option_map, append_assoc, codes}
+use Rattle.std.proofs.Common.{◌≡◌, ◌≢◌, ◌⊎◌, inl, inr, refl, sym, ap, ◌∙◌, subst, ℕ, suc, ◌+◌, ◌≤◌, ◌<◌, arith, Bool, true, false, not, ◌||◌, if◌then◌else◌, List, [], ◌∷◌, ◌++◌, reverse, slice_get, Option, Some, None, is_some, option_map, append_assoc, codes}
 use Rattle.std.specs.List.{list_any}
 use Rattle.std.proofs.lemmas.List.{append-nil}
 use Rattle.agxx_base.specs.declared.ids.ClassId.{ClassId}
@@ -53,40 +53,13 @@ use Rattle.woven_rules.proofs.MovedStatements.{converts-to, return-right, counte
 use Rattle.woven_rules.proofs.Mapped.{mapped_stmts, wrapping, stmts-are, listed-list, leaving_alone, alone-stmts}
 use Rattle.woven_rules.proofs.MappedRight.{IsFresh, IsSame, Later, at_scope, stmts-right}
 use Rattle.woven_rules.proofs.Calls.{IsProcedure, calls-right}
+use Rattle.protect_laws.proofs.Shapes.{calls, entering-is, leaving-is, returns_value, returning-is, end-is}
 
 -- ---- what wrapping makes, spelled out
-
-abbrev pub calls : (NameId → NameId) → Place → List NameId → List StmtTree
-calls of at classes = map (λ class. made.call at (of class)) classes
 
 -- the local for a returned value that so many others stand before
 abbrev pub value_at : List (List ℕ) → ℕ → NameId
 value_at names k = numbered names (codes "__gop_r_") (suc k)
-
-module _ (names : List (List ℕ)) (parts : List NameId) where
-  pub entering-is : (at : Place) → w.entering names parts at ≡ calls (enter names) at parts
-  unfolding w.entering w.entering_one
-  entering-is at = refl
-
-  pub leaving-is : (at : Place) → w.leaving names parts at ≡ calls (leave names) at (reverse parts)
-  unfolding w.leaving w.leaving_one
-  leaving-is at = refl
-
-  abbrev pub returns_value : TypeName → Place → ℕ → ExprTree → List StmtTree
-  returns_value result at k x =
-      made.local at result (value_at names k) x
-      ∷ (calls (leave names) at (reverse parts) ++ s.return at (Some (made.variable at (value_at names k))) ∷ [])
-
-  pub returning-is : (result : TypeName) (at : Place) (k : ℕ) (x : ExprTree)
-      → w.returning names result parts at (suc k) x ≡ returns_value result at k x
-  unfolding w.returning w.taken w.given w.value_name w.leaving w.leaving_one
-  returning-is result at k x = refl
-
-  pub end-is : (result : TypeName) (at : Place) (ts : StmtTrees)
-      → w.at_end names result parts at
-      ts ≡ (if ends_with_return false ts then [] else calls (leave names) at (reverse parts))
-  unfolding w.at_end w.leaving w.leaving_one
-  end-is result at ts = refl
 
 -- ---- types of results
 
@@ -321,7 +294,7 @@ module _ (Own : ℕ → Type 0) (most : ℕ) (names : List (List ℕ)) where
 
       returned-right : (others : List StmtTree) → Later Own most value b outermost b.s (k + 1) others
           → Rights (f.forms_of_stmts (woven Own b) outermost
-          (listed_stmts (returns_value names parts result place k x ++ others)))
+          (listed_stmts (returns_value names parts result place (suc k) x ++ others)))
       returned-right others later =
           let last : List StmtTree = s.return place (Some (made.variable place (value k))) ∷ others in
           joined (f.forms_of_local (woven Own b) taken) _ taken-right
@@ -351,11 +324,11 @@ module _ (Own : ℕ → Type 0) (most : ℕ) (names : List (List ℕ)) where
         (later b.t _ _ b.same (λ i above below. fresh i (omega arith) below))) b.m b.n))
     wrapping-right b good outermost k fresh place (Some x) few own h others later =
         subst (λ xs. Rights (f.forms_of_stmts (woven Own b) outermost (listed_stmts (xs ++ others))))
-        (sym (returning-is names parts result place k x)) (by good.owner)
+        (sym (returning-is names parts result place (suc k) x)) (by good.owner)
       where
         by : (b.context.owner ≡ owner.Function result) ⊎ (b.context.owner ≡ owner.Lifecycle)
             → Rights (f.forms_of_stmts (woven Own b) outermost
-            (listed_stmts (returns_value names parts result place k x ++ others)))
+            (listed_stmts (returns_value names parts result place (suc k) x ++ others)))
         by (inl is) = returned-right b good outermost k fresh place x (omega arith) own h is others later
         by (inr is) = absurd (no-return b.context.owner place is (back (form.forms_of (source Own b) x) _ h).0.7)
 

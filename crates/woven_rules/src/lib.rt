@@ -1,5 +1,5 @@
-//! The rules on names and types in protected programs: where a program keeps them and the rules on guards, its protected
-//! program keeps them as a woven one. The crate has definitions and laws alone.
+//! The rules on names and types in protected programs: where a program keeps them and the rules on guards, its
+//! protected program keeps them as a woven one. The crate has definitions and laws alone.
 //!
 //! Read `specs/WovenRules`.
 #![tactic(auto)]
